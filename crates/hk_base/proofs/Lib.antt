@@ -1,0 +1,5 @@
+pub mod FaultLaws
+pub mod SlotLaws
+pub mod HostLaws
+pub mod InputLaws
+pub mod MemoryLaws
