@@ -1,0 +1,10 @@
+use Rattle.std.proofs.Common.{◌≡◌, ◌≤◌, take}
+use Rattle.std.specs.Str.Parse.{AllDigits, digits_value}
+use Rattle.hk_text.proofs.numbers.number_of.Given as goal
+
+abbrev pub invariant-loop-digit : goal.invariant-loop-digit
+invariant-loop-digit l = record {
+  digits : AllDigits 10 (take l.digit-index l.text);
+  value : digits_value 10 (take l.digit-index l.text) ≡ l.value;
+  within : l.value ≤ l.limit;
+}

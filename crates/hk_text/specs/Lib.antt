@@ -1,0 +1,7 @@
+pub mod Bytes
+pub mod Lexemes
+pub mod Lines
+pub mod Numbers
+pub mod Steps
+pub mod Texts
+pub mod Tokens

@@ -1,0 +1,21 @@
+//! Texts as bytes: the tokens of a line, the lines of a text, and numbers in decimal. The readers
+//! of models and certificates take their lines apart by these calls, and what is printed is
+//! written by them.
+#![tactic(auto)]
+
+pub use lexemes::TokenKind;
+pub use lines::split_line;
+pub use numbers::{number_of, push_number};
+pub use readings::one_reading;
+pub use texts::{has_text, text_of};
+pub use tokenizer::{TextFault, Token, tokens};
+
+mod bytes;
+mod lexemes;
+mod lines;
+mod numbers;
+mod readings;
+#[cfg(test)]
+mod tests;
+mod texts;
+mod tokenizer;
