@@ -1,0 +1,118 @@
+-- What a good line declares is valid where what was declared before it is.
+use Rattle.std.proofs.Common.{◌≡◌, ℕ, ◌+◌, ◌<◌, ◌≤◌, List, [], ◌∷◌, ◌++◌, length, map, Option, None, Some, refl, sym, ap, subst, ◌∙◌, arith, length-append}
+use Rattle.std.specs.Prelude.{ℤ, All, IfSome}
+use Rattle.std.proofs.lemmas.List.{length-map}
+use Rattle.std.proofs.lemmas.List.Elements.{All-nil, All-cons, All-push, All-weaker}
+use Rattle.std.proofs.lemmas.List.Quantifiers.{position-Some}
+use Rattle.hk_model.specs.declared.problem.Constraint.{Constraint}
+use Rattle.hk_model.specs.declared.problem.Constraint.TheVariants.{AllDifferent, Sum}
+use Rattle.hk_model.specs.declared.linear.Linear.{Linear}
+use Rattle.hk_model.specs.declared.limits.TheConstants.{VARIABLES, NAME_BYTES, CONSTRAINTS}
+use Rattle.hk_model.specs.Problems.{PlainProblem, IsScope, IsLinear, IsConstraint, IsDomain, IsValid}
+use Rattle.hk_model.specs.Statements.{Statement, Says, says_distinct, place_of, IsRange, AddsVariable, AreNamesOf, AddsConstraint, empty_problem, Declares, declares_header, declares_variable, declares_distinct}
+use Rattle.hk_model.specs.Models.{IsGoodLine, good_empty, good_statement}
+
+-- what is declared so far is valid
+abbrev pub IsValidSoFar : Option PlainProblem → Type 0
+IsValidSoFar None = Unit {0}
+IsValidSoFar (Some p) = IsValid p
+
+-- the problem without variables and constraints is valid
+empty_valid : IsValid empty_problem
+empty_valid = record {
+  named = refl;
+  variables = omega arith;
+  names = All-nil _;
+  domains = All-nil _;
+  few = omega arith;
+  constraints = All-nil _;
+  objective = tt;
+}
+
+-- a scope of variables is one of more variables
+scope_more : (m n : ℕ) → m ≤ n → (scope : List ℕ) → IsScope m scope → IsScope n scope
+scope_more m n more scope is = record {
+  some = is.some;
+  rising = is.rising;
+  declared = All-weaker (λ v. v < m) (λ v. v < n) (λ v below. omega (arith, more, below)) scope is.declared;
+}
+
+-- a sum of variables is one of more variables
+linear_more : (m n : ℕ) → m ≤ n → (scope : List ℕ) (coefs : List ℤ) → IsLinear m scope coefs → IsLinear n scope coefs
+linear_more m n more scope coefs is = record { over = scope_more m n more scope is.over; one_each = is.one_each; small = is.small }
+
+-- a constraint on variables is one on more variables
+constraint_more : (m n : ℕ) → m ≤ n → (c : Constraint) → IsConstraint m c → IsConstraint n c
+constraint_more m n more (AllDifferent scope) c = scope_more m n more scope c
+constraint_more m n more (Sum scope coefs least most) c = (linear_more m n more scope coefs c.0, c.1, c.2)
+
+-- an objective on variables is one on more variables
+objective_more : (m n : ℕ) → m ≤ n → (objective : Option Linear) → IfSome objective (λ linear. IsLinear m linear.scope linear.coefs) → IfSome objective (λ linear. IsLinear n linear.scope linear.coefs)
+objective_more m n more None is = tt
+objective_more m n more (Some linear) is = linear_more m n more linear.scope linear.coefs is
+
+-- a range from its first value on is a domain
+range_domain : (first last set : ℕ) → first ≤ last → IsRange first last set → IsDomain set
+range_domain first last set ordered range = record {
+  small = range.small;
+  least = first;
+  some = (range.values first).1 (omega arith, ordered);
+}
+
+-- a new variable keeps a problem valid
+variable_valid : {name : List ℕ} {first last : ℕ} {before after : PlainProblem} → AddsVariable name first last before after → IsValid before → IsValid after
+variable_valid {name = name} {first = first} {last = last} {before = before} adds valid = subst IsValid (sym adds.added) (record {
+  named = length-append before.names (name ∷ []) ∙ ap (λ n. n + 1) valid.named ∙ sym (length-append before.domains (adds.domain ∷ []));
+  variables = subst (λ n. n ≤ VARIABLES) (sym longer) (omega (arith, adds.room));
+  names = All-push (λ text. length text ≤ NAME_BYTES) before.names name valid.names adds.short;
+  domains = All-push IsDomain before.domains adds.domain valid.domains (range_domain first last adds.domain adds.ordered adds.range);
+  few = valid.few;
+  constraints = All-weaker (IsConstraint (length before.names)) (IsConstraint (length (before.names ++ name ∷ [])))
+      (constraint_more (length before.names) (length (before.names ++ name ∷ [])) (omega (arith, longer))) before.constraints valid.constraints;
+  objective = objective_more (length before.names) (length (before.names ++ name ∷ [])) (omega (arith, longer)) before.objective valid.objective;
+})
+  where
+    longer : length (before.names ++ name ∷ []) ≡ length before.names + 1
+    longer = length-append before.names (name ∷ [])
+
+-- the place of a name is that of a variable
+places_below : (all names : List (List ℕ)) (scope : List ℕ) → map (place_of all) names ≡ map Some scope → All (λ v. v < length all) scope
+places_below all names [] same = All-nil _
+places_below all [] (v ∷ scope) same = cc
+places_below all (name ∷ names) (v ∷ scope) same =
+    let place : place_of all name ≡ Some v = cc in
+    let rest : map (place_of all) names ≡ map Some scope = cc in
+    All-cons (λ u. u < length all) v scope (position-Some _ all v [] place).0 (places_below all names scope rest)
+
+-- a new constraint on variables with these names keeps a problem valid
+constraint_valid : {names : List (List ℕ)} {scope : List ℕ} {before after : PlainProblem} → 0 < length names → AreNamesOf names before scope → AddsConstraint (AllDifferent scope) before after → IsValid before → IsValid after
+constraint_valid {names = names} {scope = scope} {before = before} some named adds valid = subst IsValid (sym adds.added) (record {
+  named = valid.named;
+  variables = valid.variables;
+  names = valid.names;
+  domains = valid.domains;
+  few = subst (λ n. n ≤ CONSTRAINTS) (sym (length-append before.constraints (AllDifferent scope ∷ []))) (omega (arith, adds.room));
+  constraints = All-push (IsConstraint (length before.names)) before.constraints (AllDifferent scope) valid.constraints is_scope;
+  objective = valid.objective;
+})
+  where
+    as_many : length names ≡ length scope
+    as_many = sym (length-map names (place_of before.names)) ∙ ap length named.declared ∙ length-map scope Some
+
+    is_scope : IsScope (length before.names) scope
+    is_scope = record {
+      some = subst (λ n. 0 < n) as_many some;
+      rising = named.rising;
+      declared = places_below before.names names scope named.declared;
+    }
+
+-- a statement that a line says keeps what is declared valid
+statement_valid : {texts : List (List ℕ)} {s : Statement} {before after : Option PlainProblem} → Says texts s → Declares before s after → IsValidSoFar before → IsValidSoFar after
+statement_valid says declares_header valid = empty_valid
+statement_valid says (declares_variable adds) valid = variable_valid adds valid
+statement_valid (says_distinct x words) (declares_distinct named adds) valid = constraint_valid (omega arith) named adds valid
+
+-- a good line keeps what is declared valid
+pub good_line_valid : {before after : Option PlainProblem} {line : List ℕ} → IsGoodLine before line after → IsValidSoFar before → IsValidSoFar after
+good_line_valid (good_empty x) valid = valid
+good_line_valid (good_statement x says declares) valid = statement_valid says declares valid

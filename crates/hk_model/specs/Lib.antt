@@ -1,0 +1,13 @@
+pub mod Declarations
+pub mod Faults
+pub mod Models
+pub mod Problems
+pub mod Shapes
+pub mod Solutions
+pub mod Statements
+pub use Rattle.hk_base.specs.Sets
+pub use Rattle.hk_text.specs.Lexemes
+pub use Rattle.hk_text.specs.Lines
+pub use Rattle.hk_text.specs.Numbers
+pub use Rattle.hk_text.specs.Texts
+pub use Rattle.hk_text.specs.Tokens

@@ -1,0 +1,52 @@
+use Rattle.std.specs.Prelude.{◌≡◌, ℕ, ◌<◌, ◌≤◌, ◌^◌, ℤ, neg_ℤ, ◌≤ℤ◌, List, length, All, Option, IfSome}
+use Rattle.std.specs.List.Sorted.{IsStrictlyIncreasing}
+use Rattle.hk_base.specs.Sets.{Has}
+use Rattle.hk_model.specs.declared.problem.Constraint.{Constraint}
+use Rattle.hk_model.specs.declared.problem.Constraint.TheVariants.{AllDifferent, Sum}
+use Rattle.hk_model.specs.declared.linear.Linear.{Linear}
+use Rattle.hk_model.specs.declared.limits.TheConstants.{VARIABLES, VALUES, NAME_BYTES, CONSTRAINTS, COEFFICIENT, LIM}
+
+-- a problem: for each variable its name and its set of values, the constraints, and the objective, where there is one
+pub record PlainProblem : Type 0 where
+  pub names : List (List ℕ)
+  pub domains : List ℕ
+  pub constraints : List Constraint
+  pub objective : Option Linear
+
+-- the scope is at least one of that many variables, in the order of their declaration
+pub record IsScope (variables : ℕ) (scope : List ℕ) : Type 0 where
+  pub some : 0 < length scope
+  pub rising : IsStrictlyIncreasing scope
+  pub declared : All (λ variable. variable < variables) scope
+
+-- the number is at most this great in size
+pub record IsWithin (size n : ℤ) : Type 0 where
+  pub above : neg_ℤ size ≤ℤ n
+  pub below : n ≤ℤ size
+
+-- the scope is one of that many variables, each with a coefficient of at most 1,000,000 in size
+pub record IsLinear (variables : ℕ) (scope : List ℕ) (coefs : List ℤ) : Type 0 where
+  pub over : IsScope variables scope
+  pub one_each : length coefs ≡ length scope
+  pub small : All (IsWithin COEFFICIENT) coefs
+
+-- the constraint's scope is one of that many variables; the bounds of a sum are at most 1,000,000,000,000 in size
+abbrev pub IsConstraint : ℕ → Constraint → Type 0
+IsConstraint variables (AllDifferent scope) = IsScope variables scope
+IsConstraint variables (Sum scope coefs least most) = IsLinear variables scope coefs × IsWithin LIM least × IsWithin LIM most
+
+-- the set has a value, and only values from 0 to 127
+pub record IsDomain (domain : ℕ) : Type 0 where
+  pub small : domain < 2 ^ VALUES
+  pub least : ℕ
+  pub some : Has domain least
+
+-- the problem is within the limits, and its constraints and its objective are about its variables
+pub record IsValid (p : PlainProblem) : Type 0 where
+  pub named : length p.names ≡ length p.domains
+  pub variables : length p.names ≤ VARIABLES
+  pub names : All (λ name. length name ≤ NAME_BYTES) p.names
+  pub domains : All IsDomain p.domains
+  pub few : length p.constraints ≤ CONSTRAINTS
+  pub constraints : All (IsConstraint (length p.names)) p.constraints
+  pub objective : IfSome p.objective (λ linear. IsLinear (length p.names) linear.scope linear.coefs)

@@ -1,0 +1,48 @@
+use Rattle.std.specs.Prelude.{◌≡◌, ◌≢◌, ℕ, ℤ, pos, ◌<◌, ◌+ℤ◌, ◌*ℤ◌, ◌≤ℤ◌, List, [], ◌∷◌, ◌⊎◌, length, map, slice_index, All, AllPairs, Option, None, Some}
+use Rattle.hk_base.specs.Sets.{Has}
+use Rattle.hk_model.specs.declared.problem.Constraint.{Constraint}
+use Rattle.hk_model.specs.declared.problem.Constraint.TheVariants.{AllDifferent, Sum}
+use Rattle.hk_model.specs.declared.linear.Linear.{Linear}
+use Rattle.hk_model.specs.Problems.{PlainProblem}
+
+-- the values of a scope's variables, in the order of the scope
+abbrev pub scope_values : List ℕ → List ℕ → List ℕ
+scope_values scope values = map (λ variable. slice_index values variable) scope
+
+-- the sum of coefficient times value over the variables of the scope
+abbrev pub linear_value : List ℕ → List ℤ → List ℕ → ℤ
+linear_value [] coefs values = pos 0
+linear_value (variable ∷ scope) [] values = pos 0
+linear_value (variable ∷ scope) (coef ∷ coefs) values = (coef *ℤ pos (slice_index values variable)) +ℤ linear_value scope coefs values
+
+-- the constraint holds where each variable has its value: no two values of the scope are equal, or the sum lies within its bounds
+abbrev pub Holds : List ℕ → Constraint → Type 0
+Holds values (AllDifferent scope) = AllPairs (λ x y. x ≢ y) (scope_values scope values)
+Holds values (Sum scope coefs least most) = (least ≤ℤ linear_value scope coefs values) × (linear_value scope coefs values ≤ℤ most)
+
+-- each variable has one of its values, and every constraint holds
+pub record IsSolution (p : PlainProblem) (values : List ℕ) : Type 0 where
+  pub one_each : length values ≡ length p.domains
+  pub inside : (variable : ℕ) → variable < length p.domains → Has (slice_index p.domains variable) (slice_index values variable)
+  pub hold : All (Holds values) p.constraints
+
+-- what values cost by an objective: its sum, or 0 where there is none
+abbrev pub cost_by : Option Linear → List ℕ → ℤ
+cost_by None values = pos 0
+cost_by (Some linear) values = linear_value linear.scope linear.coefs values
+
+-- what values cost in a problem
+abbrev pub cost_of : PlainProblem → List ℕ → ℤ
+cost_of p values = cost_by p.objective values
+
+-- xs is ys, or comes before it in the order of lists, where the first difference decides
+abbrev pub IsNotAfter : List ℕ → List ℕ → Type 0
+IsNotAfter [] ys = Unit {0}
+IsNotAfter (x ∷ xs) [] = ⊥
+IsNotAfter (x ∷ xs) (y ∷ ys) = (x < y) ⊎ ((x ≡ y) × IsNotAfter xs ys)
+
+-- the values are the first, in the order of lists, of the solutions of least cost
+pub record IsAnswer (p : PlainProblem) (values : List ℕ) : Type 0 where
+  pub solution : IsSolution p values
+  pub least : (other : List ℕ) → IsSolution p other → cost_of p values ≤ℤ cost_of p other
+  pub first : (other : List ℕ) → IsSolution p other → cost_of p other ≡ cost_of p values → IsNotAfter values other

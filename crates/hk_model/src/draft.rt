@@ -1,0 +1,118 @@
+ghost use Rattle.std.specs.Prelude.{◌≡◌, ◌<◌, ◌∷◌, ◌++◌, [], length, None, OnOk, IfOk};
+ghost use Rattle.hk_model.specs.Problems.{IsValid};
+ghost use Rattle.hk_model.specs.Statements.{place_of, empty_problem};
+
+use crate::limits::VARIABLES;
+use crate::problem::{Constraint, Constraints, Names, Problem};
+use hk_base::{Bytes, List};
+use indexmap::IndexMap;
+use std::alloc::{AllocError, Global};
+use std::marker::Model;
+
+/// What the lines read so far declare: a problem that grows line by line, and whose variables are
+/// found by name.
+#[derive(Drop)]
+pub struct Draft {
+    variables: IndexMap<Vec<u8>, u128>,
+    constraints: Constraints,
+}
+
+impl Model for Draft {
+    ghost use Rattle.std.specs.Prelude.{◌≤◌, map, None};
+    ghost use Rattle.indexmap.specs.IndexMap.{keys, values, index_map_len};
+    ghost use Rattle.hk_model.specs.declared.limits.TheConstants.{VARIABLES};
+    ghost use Rattle.hk_model.specs.Problems.{PlainProblem};
+
+    ghost Value = { PlainProblem };
+
+    ghost view = { λ d. record {
+      names = map (λ name. name.items) (keys d.variables);
+      domains = values d.variables;
+      constraints = d.constraints;
+      objective = None;
+    } };
+
+    ghost invariant = { λ d. index_map_len d.variables ≤ VARIABLES };
+}
+
+impl Draft {
+    /// A draft without variables and constraints.
+    pub fn new(alloc: Global) -> Draft
+        ensures { result ≡ empty_problem }
+    {
+        Draft {
+            variables: IndexMap::new(alloc),
+            constraints: List::new(alloc),
+        }
+    }
+
+    /// How many variables are declared.
+    pub fn variable_count(&self) -> usize
+        ensures { result ≡ length self.now.names }
+    {
+        self.variables.len()
+    }
+
+    /// How many constraints are declared.
+    pub fn constraint_count(&self) -> usize
+        ensures { result ≡ length self.now.constraints }
+    {
+        self.constraints.as_slice().len()
+    }
+
+    /// The place of the variable with this name, where there is one.
+    pub fn place_of(&self, name: &[u8]) -> Option<u16>
+        ensures { result ≡ place_of self.now.names name.now }
+    {
+        match self.variables.get_index_of(name) {
+            None => None,
+            Some(place) => Some(place as u16),
+        }
+    }
+
+    /// Declares a variable under a name that no other has.
+    pub fn add_variable(
+        &mut self,
+        alloc: Global,
+        name: &[u8],
+        domain: u128,
+    ) -> Result<(), AllocError>
+        requires new { place_of self.old.names name.now ≡ None }
+        requires room { length self.old.names < VARIABLES }
+        ensures { OnOk result (self.new ≡ record self.old {
+          names = self.old.names ++ name.now ∷ [];
+          domains = self.old.domains ++ domain ∷ [];
+        }) }
+    {
+        self.variables.insert(name.to_vec(alloc)?, domain)?;
+        Ok(())
+    }
+
+    /// Declares a constraint.
+    pub fn add_constraint(&mut self, constraint: Constraint) -> Result<(), AllocError>
+        ensures { OnOk result (self.new ≡ record self.old {
+          constraints = self.old.constraints ++ constraint ∷ [];
+        }) }
+    {
+        self.constraints.push(constraint)?;
+        Ok(())
+    }
+
+    /// The problem that is declared, where it is valid.
+    pub fn finish(self, alloc: Global) -> Result<Problem, AllocError>
+        requires { IsValid self }
+        ensures { IfOk result (λ problem. problem ≡ self) }
+    {
+        let Draft {
+            variables,
+            constraints,
+        } = self;
+        let mut names: Names = List::new(alloc);
+        let mut domains = List::new(alloc);
+        for (name, domain) in variables {
+            names.push(Bytes::from_vec(name))?;
+            domains.push(domain)?;
+        }
+        Ok(Problem::new(names, domains, constraints, None))
+    }
+}

@@ -1,0 +1,63 @@
+ghost use Rattle.std.specs.Prelude.{◌≡◌, ◌≢◌, ◌<◌, ◌≤◌, ◌↔◌, length, All, AllPairs, IfOk, IfSome, IsOk, IsSome, IsTrue};
+ghost use Rattle.hk_model.specs.Problems.{IsConstraint};
+ghost use Rattle.hk_model.specs.Solutions.{scope_values, Holds, cost_of};
+
+use crate::limits::{VALUES, VARIABLES};
+use crate::linear::{cost_by, linear_value};
+use crate::problem::{Constraint, Problem};
+use std::alloc::AllocError;
+
+/// What the values cost, where they make every constraint of the problem hold, and else None.
+/// There is one value below 128 for each variable; whether it is in the variable's set isn't asked.
+/// No cost and no sum is more than 32,512,000,000 in size. No constraint takes memory today, so the
+/// call isn't refused.
+pub fn judge(problem: &Problem, values: &[u8]) -> Result<Option<i64>, AllocError>
+    requires one_each { length values.now ≡ length problem.now.domains }
+    requires small { All (λ value. value < VALUES) values.now }
+    ensures answers { IsOk result }
+    ensures holds { IfOk result (λ cost. IsSome cost ↔ All (Holds values.now) problem.now.constraints) }
+    ensures cost { IfOk result (λ found. IfSome found (λ cost. cost ≡ cost_of problem.now values.now)) }
+{
+    for constraint in problem.constraints() {
+        if !holds(constraint, values) {
+            return Ok(None);
+        }
+    }
+    Ok(Some(cost_by(problem.objective(), values)))
+}
+
+fn holds(constraint: &Constraint, values: &[u8]) -> bool
+    requires scope { IsConstraint (length values.now) constraint.now }
+    requires few { length values.now ≤ VARIABLES }
+    requires small { All (λ value. value < VALUES) values.now }
+    ensures { IsTrue result ↔ Holds values.now constraint.now }
+{
+    match constraint {
+        Constraint::AllDifferent { scope } => are_different(scope.as_slice(), values),
+        Constraint::Sum {
+            scope,
+            coefs,
+            least,
+            most,
+        } => {
+            let value = linear_value(scope.as_slice(), coefs.as_slice(), values);
+            *least <= value && value <= *most
+        }
+    }
+}
+
+fn are_different(scope: &[u16], values: &[u8]) -> bool
+    requires declared { All (λ variable. variable < length values.now) scope.now }
+    requires small { All (λ value. value < VALUES) values.now }
+    ensures { IsTrue result ↔ AllPairs (λ x y. x ≢ y) (scope_values scope.now values.now) }
+{
+    let mut seen = 0u128;
+    for variable in scope {
+        let value = values[*variable as usize];
+        if (seen >> value) & 1 == 1 {
+            return false;
+        }
+        seen |= 1u128 << value;
+    }
+    true
+}

@@ -1,0 +1,101 @@
+ghost use Rattle.std.specs.Prelude.{◌≡◌};
+ghost use Rattle.hk_model.specs.Problems.{IsValid};
+
+use crate::linear::Linear;
+use hk_base::{Bytes, List};
+use std::marker::Model;
+
+/// The variables' names, in the order of declaration.
+pub type Names = List<Bytes>;
+
+/// The constraints, in the order of their lines.
+pub type Constraints = List<Constraint>;
+
+/// A constraint. A scope lists variables by their places, from 0, in the order of declaration.
+#[derive(Debug, Drop)]
+pub enum Constraint {
+    /// The values of the scope's variables are pairwise distinct.
+    AllDifferent {
+        scope: List<u16>,
+    },
+    /// The sum of coefficient times value over the scope's variables, which have one coefficient
+    /// each, lies from `least` to `most`.
+    Sum {
+        scope: List<u16>,
+        coefs: List<i64>,
+        least: i64,
+        most: i64,
+    },
+}
+
+/// A valid problem: for each variable a name and a nonempty set of values, the constraints, and the
+/// objective, where there is one: the sum that is to be least. Bit v of a set stands for the value v,
+/// from 0 to 127.
+#[derive(Debug, Drop)]
+pub struct Problem {
+    names: Names,
+    domains: List<u128>,
+    constraints: Constraints,
+    objective: Option<Linear>,
+}
+
+impl Model for Problem {
+    ghost use Rattle.hk_model.specs.Problems.{PlainProblem, IsValid};
+
+    ghost Value = { PlainProblem };
+
+    ghost view = { λ p. record { names = p.names; domains = p.domains; constraints = p.constraints; objective = p.objective } };
+
+    ghost invariant = { λ p. IsValid (record { names = p.names; domains = p.domains; constraints = p.constraints; objective = p.objective }) };
+}
+
+impl Problem {
+    /// The problem with these names, sets, constraints and objective.
+    pub fn new(
+        names: Names,
+        domains: List<u128>,
+        constraints: Constraints,
+        objective: Option<Linear>,
+    ) -> Problem
+        requires valid { IsValid (record { names = names; domains = domains; constraints = constraints; objective = objective }) }
+        ensures { result ≡ record { names = names; domains = domains; constraints = constraints; objective = objective } }
+    {
+        Problem {
+            names,
+            domains,
+            constraints,
+            objective,
+        }
+    }
+
+    /// The variables' names, in the order of declaration.
+    pub fn names(&self) -> &[Bytes]
+        ensures { result.now ≡ self.now.names }
+    {
+        self.names.as_slice()
+    }
+
+    /// The variables' sets of values, one for each name.
+    pub fn domains(&self) -> &[u128]
+        ensures domains { result.now ≡ self.now.domains }
+        ensures valid { IsValid self.now }
+    {
+        self.domains.as_slice()
+    }
+
+    /// The constraints, in the order of their lines.
+    pub fn constraints(&self) -> &[Constraint]
+        ensures constraints { result.now ≡ self.now.constraints }
+        ensures valid { IsValid self.now }
+    {
+        self.constraints.as_slice()
+    }
+
+    /// What is to be least, where the problem says so.
+    pub fn objective(&self) -> &Option<Linear>
+        ensures objective { result.now ≡ self.now.objective }
+        ensures valid { IsValid self.now }
+    {
+        &self.objective
+    }
+}

@@ -1,0 +1,27 @@
+use thiserror::Error;
+
+/// Why a line of a model is refused.
+#[derive(Clone, Copy, Debug, PartialEq, Eq)]
+pub enum RefusalKind {
+    /// The line begins a statement that isn't read yet.
+    Later,
+    /// The line is no statement, or none that may stand there.
+    Bad,
+}
+
+/// The refusal of a model: its first bad line, counted from 1, and why it is bad. What isn't finished
+/// at the end is refused at the line after the last.
+#[derive(Clone, Copy, Debug, PartialEq, Eq)]
+pub struct Refusal {
+    pub line: u32,
+    pub kind: RefusalKind,
+}
+
+/// Why no problem was read.
+#[derive(Debug, Drop, Error)]
+pub enum ModelError {
+    #[error("the model is refused at line {}", .0.line)]
+    Refused(Refusal),
+    #[error("no memory for the model")]
+    Memory,
+}
