@@ -1,0 +1,3 @@
+pub mod AnswerTexts
+pub mod Findings
+pub mod Walks
