@@ -1,0 +1,6 @@
+pub mod Clauses
+pub mod Endings
+pub mod Pieces
+pub mod Replies
+pub mod SystemLaws
+pub mod Words

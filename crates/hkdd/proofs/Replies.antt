@@ -1,0 +1,21 @@
+-- What is said of a model, by what was found of it.
+use Rattle.std.proofs.Common.{◌≡◌, sym, subst, ℕ, ◌<◌, ◌≤◌, List, length}
+use Rattle.hk_model.specs.declared.refusal.RefusalKind.{RefusalKind}
+use Rattle.hk_model.specs.declared.refusal.RefusalKind.TheVariants.{Later}
+use Rattle.hk_model.specs.Problems.{PlainProblem}
+use Rattle.hk_model.specs.Models.{Spells, IsRefusal}
+use Rattle.hk_search.specs.AnswerTexts.{IsAnswerText}
+use Rattle.hkdd.specs.declared.limits.TheConstants.{MODEL_BYTES}
+use Rattle.hkdd.specs.Runs.{IsReply, reply_answer, reply_refusal, reply_too_long}
+use Rattle.hkdd.specs.Texts.{refusal_text}
+
+pub answers : (bytes text : List ℕ) (problem : PlainProblem) (status : ℕ) → length bytes ≤ MODEL_BYTES → Spells bytes problem → IsAnswerText problem text → status ≡ 0 → IsReply bytes status text
+answers bytes text problem status short spells is zero = subst (λ n. IsReply bytes n text) (sym zero) (reply_answer short spells is)
+
+pub refuses : (bytes text : List ℕ) (line status : ℕ) (kind : RefusalKind) → length bytes ≤ MODEL_BYTES → IsRefusal bytes line kind → status ≡ 3 → text ≡ refusal_text line kind → IsReply bytes status text
+refuses bytes text line status kind short refused three same =
+    subst (λ n. IsReply bytes n text) (sym three) (subst (λ t. IsReply bytes 3 t) (sym same) (reply_refusal short refused))
+
+pub too_long : (bytes text : List ℕ) (status : ℕ) → MODEL_BYTES < length bytes → status ≡ 3 → text ≡ refusal_text 0 Later → IsReply bytes status text
+too_long bytes text status long three same =
+    subst (λ n. IsReply bytes n text) (sym three) (subst (λ t. IsReply bytes 3 t) (sym same) (reply_too_long long))

@@ -1,0 +1,22 @@
+-- The fixed texts of the program.
+use Rattle.std.specs.Prelude.{ℕ, List, ◌++◌, codes}
+use Rattle.std.specs.Fmt.{decimal}
+use Rattle.hk_model.specs.declared.refusal.RefusalKind.{RefusalKind}
+use Rattle.hk_model.specs.declared.refusal.RefusalKind.TheVariants.{Later, Bad}
+
+-- how the program is called
+abbrev pub usage_text : List ℕ
+usage_text = codes "usage: hkdd solve FILE\n"
+
+-- that an input could not be read
+abbrev pub read_fault_text : List ℕ
+read_fault_text = codes "read fault\n"
+
+-- the name of a kind of refusal
+abbrev pub kind_text : RefusalKind → List ℕ
+kind_text Later = codes "Later"
+kind_text Bad = codes "Bad"
+
+-- that a model is refused at a line, and why
+abbrev pub refusal_text : ℕ → RefusalKind → List ℕ
+refusal_text line kind = codes "refused line " ++ (decimal line ++ (codes " " ++ (kind_text kind ++ codes "\n")))
