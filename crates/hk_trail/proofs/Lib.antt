@@ -1,0 +1,4 @@
+pub mod Levelling
+pub mod Marking
+pub mod Undoing
+pub mod Zipping
