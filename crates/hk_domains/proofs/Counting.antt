@@ -1,0 +1,82 @@
+use Rattle.std.proofs.Common.{◌≡◌, ◌≢◌, ℕ, ◌*◌, ◌%◌, ◌^◌, ◌<◌, refl, sym, ◌∙◌, ap, arith, inl, inr, not, ◌==◌, ◌↔◌, IsTrue}
+use Rattle.std.proofs.lemmas.Bool.Decides.{eqb_tells}
+use Rattle.std.specs.Int.{bit_at, trailing_zeros, w128}
+use Rattle.std.proofs.Math.Pow.{pow-lt}
+use Rattle.std.proofs.lemmas.Bool.{cases_eq, cases_lt}
+use Rattle.std.proofs.lemmas.Nat.Bits.{bit_at-pow_same, bit_at-pow_other, bit_at-trailing_zeros, bit_at-zero}
+use Rattle.hk_base.specs.Sets.{Has}
+use Rattle.hk_domains.specs.Values.{HasSeveral, IsOnlyValue, IsWithout}
+
+-- a shifted bit is a power of two
+pub one_bit : (value : ℕ) → value < 128 → 1 * 2 ^ value % 2 ^ 128 ≡ 2 ^ value
+one_bit value within = let fits : 2 ^ value < 2 ^ 128 = pow-lt within in omega (arith, fits)
+
+-- the set of one bit
+pub IsOnlyValue-one_bit : (value : ℕ) → value < 128 → IsOnlyValue (1 * 2 ^ value % 2 ^ 128) value
+IsOnlyValue-one_bit value within = record {
+  within = within;
+  has = rw (one_bit value within) (bit_at-pow_same value);
+  only = λ other below has. elim (cases_eq other value) [
+    | inl same ↦ same
+    | inr apart ↦ let none : bit_at (2 ^ value) other ≡ 0 = bit_at-pow_other value other apart in let one : bit_at (2 ^ value) other ≡ 1 = rw (one_bit value within) at has in absurd (omega arith)
+  ];
+}
+
+-- the empty set has no two values
+pub HasSeveral-empty : HasSeveral 0 → ⊥
+HasSeveral-empty several = let none : bit_at 0 several.low ≡ 0 = bit_at-zero several.low in let one : bit_at 0 several.low ≡ 1 = several.has_low in omega arith
+
+-- a set that is empty without one value has no two
+pub HasSeveral-one : (set value : ℕ) → IsWithout set value 0 → HasSeveral set → ⊥
+HasSeveral-one set value without several = elim (cases_eq several.low value) [
+  | inl same ↦ let none : 0 ≡ bit_at set several.high = sym (bit_at-zero several.high) ∙ without.others several.high several.within (omega (arith, several.apart)) in let one : bit_at set several.high ≡ 1 = several.has_high in omega arith
+  | inr apart ↦ let none : 0 ≡ bit_at set several.low = sym (bit_at-zero several.low) ∙ without.others several.low (omega (arith, several.apart, several.within)) apart in let one : bit_at set several.low ≡ 1 = several.has_low in omega arith
+]
+
+-- another value than the lowest
+pub HasSeveral-other : (set other : ℕ) → 0 < set → set < 2 ^ 128 → other < 128 → Has set other → other ≢ trailing_zeros w128 set → HasSeveral set
+HasSeveral-other set other some fits within has apart =
+    let lowest = bit_at-trailing_zeros w128 set some fits in
+    elim (cases_lt (trailing_zeros w128 set) other) [
+      | inl above ↦ record { low = trailing_zeros w128 set; high = other; apart = above; within = within; has_low = lowest.1; has_high = has }
+      | inr below ↦ let none : bit_at set other ≡ 0 = lowest.2 other (omega (arith, below, apart)) in let one : bit_at set other ≡ 1 = has in absurd (omega arith)
+    ]
+
+-- a set that isn't empty without its lowest value has two
+pub HasSeveral-rest : (set rest : ℕ) → 0 < set → set < 2 ^ 128 → rest < 2 ^ 128 → IsWithout set (trailing_zeros w128 set) rest → 0 < rest → HasSeveral set
+HasSeveral-rest set rest some fits rest_fits without left =
+    let next = bit_at-trailing_zeros w128 rest left rest_fits in
+    let apart : trailing_zeros w128 rest ≢ trailing_zeros w128 set = λ same.
+    let one : bit_at rest (trailing_zeros w128 set) ≡ 1 = ap (λ k. bit_at rest k) (sym same) ∙ next.1 in let none : bit_at rest (trailing_zeros w128 set) ≡ 0 = without.gone in omega arith in
+    HasSeveral-other set (trailing_zeros w128 rest) some fits next.0 (sym (without.others (trailing_zeros w128 rest) next.0 apart) ∙ next.1) apart
+
+-- whether anything is left without the lowest value tells whether there are two
+pub HasSeveral-test : (set rest : ℕ) → 0 < set → set < 2 ^ 128 → rest < 2 ^ 128 → IsWithout set (trailing_zeros w128 set) rest → IsTrue (not (rest == 0)) ↔ HasSeveral set
+HasSeveral-test set rest some fits rest_fits without = elim (eqb_tells rest 0) [
+  | inl none ↦ rw none.0 (λ left. cc, λ several. absurd (HasSeveral-one set (trailing_zeros w128 set) (rw none.1 at without) several))
+  | inr left ↦ rw left.0 (λ _. HasSeveral-rest set rest some fits rest_fits without (omega (arith, left.1)), λ _. refl)
+]
+
+-- the lowest value of a set that has no two is its only one
+pub IsOnlyValue-lowest : (set : ℕ) → 0 < set → set < 2 ^ 128 → (HasSeveral set → ⊥) → IsOnlyValue set (trailing_zeros w128 set)
+IsOnlyValue-lowest set some fits single =
+    let lowest = bit_at-trailing_zeros w128 set some fits in
+    record {
+      within = lowest.0;
+      has = lowest.1;
+      only = λ other within has. elim (cases_eq other (trailing_zeros w128 set)) [
+        | inl same ↦ same
+        | inr apart ↦ absurd (single (HasSeveral-other set other some fits within has apart))
+      ];
+    }
+
+-- a set with an only value isn't empty, and has no two
+pub IsOnlyValue-single : (set value : ℕ) → IsOnlyValue set value → HasSeveral set → ⊥
+IsOnlyValue-single set value alone several =
+    let low : several.low ≡ value = alone.only several.low (omega (arith, several.apart, several.within)) several.has_low in
+    let high : several.high ≡ value = alone.only several.high several.within several.has_high in
+    omega (arith, several.apart)
+
+-- the empty set has no only value
+pub IsOnlyValue-empty : (value : ℕ) → IsOnlyValue 0 value → ⊥
+IsOnlyValue-empty value alone = let none : bit_at 0 value ≡ 0 = bit_at-zero value in let one : bit_at 0 value ≡ 1 = alone.has in omega arith
