@@ -1,0 +1,10 @@
+pub mod Covers
+pub mod Joins
+pub mod Lattices
+pub mod Limits
+pub mod Orders
+pub mod Sets
+pub mod Shapes
+pub mod Tops
+pub mod NumberLattices
+pub mod SetLattices
