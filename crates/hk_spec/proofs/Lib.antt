@@ -1,0 +1,5 @@
+pub mod Lookups
+pub mod PartLaws
+pub mod RunLaws
+pub mod StepLaws
+pub mod ValueLaws

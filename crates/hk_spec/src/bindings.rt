@@ -1,0 +1,155 @@
+ghost use Rattle.std.specs.Prelude.{◌≡◌, ℕ, ◌<◌, ◌↔◌, length, IsTrue, IfOk, All};
+ghost use Rattle.hk_kinds.specs.Shapes.{HasShape};
+ghost use Rattle.hk_spec.specs.Runs.{Accepts};
+ghost use Rattle.hk_spec.specs.Specifications.{down_shape, up_shape};
+ghost use Rattle.hk_spec.specs.Steps.{down_part, up_part, down_step, up_step, test_passes, with_part};
+
+use crate::arguments::Arg;
+use crate::copies::copy_list;
+use crate::runs::{initial_state, passes_alone, stepped_down, up_states};
+use crate::settings::Setting;
+use crate::specification::Spec;
+use crate::steps::{part, write_steps};
+use crate::values::holds;
+use hk_base::List;
+use hk_kinds::State;
+use std::alloc::{AllocError, Global};
+use std::marker::Model;
+
+/// A specification with arguments, for lists of `len` values. Its state may be a part of a longer
+/// state, and begins there at the place `first`.
+#[derive(Debug, Drop)]
+pub struct Bound {
+    pub spec: Spec,
+    pub args: List<Arg>,
+    pub len: u16,
+}
+
+/// Several of them, as the rows of one constraint.
+pub type Bounds = List<Bound>;
+
+impl Model for Bound {
+    ghost use Rattle.std.specs.Coded.{codes};
+    ghost use Rattle.hk_spec.specs.contracts.arguments.Arg as argument;
+    ghost use Rattle.hk_spec.specs.contracts.specification.Spec as specification;
+    ghost use Rattle.hk_spec.specs.Specifications.{BoundSpecification, IsBound};
+
+    ghost Value = { BoundSpecification };
+
+    ghost coded = { Prim.hlevel (codes, argument.the_row.coded, specification.the_row.coded) };
+
+    ghost view = { λ b. record { spec = b.spec; args = b.args; len = b.len } };
+
+    ghost invariant = { λ b. IsBound (record { spec = b.spec; args = b.args; len = b.len }) };
+}
+
+impl Bound {
+    /// An equal value.
+    pub fn copy(&self, alloc: Global) -> Result<Bound, AllocError>
+        ensures { IfOk result (λ bound. bound ≡ self.now) }
+    {
+        Ok(Bound {
+            spec: self.spec.copy(alloc)?,
+            args: copy_list(alloc, self.args.as_slice())?,
+            len: self.len,
+        })
+    }
+
+    /// Writes the down state after a value at a position, of the one before it in `from`, over the
+    /// properties of `to`; all others stay.
+    pub fn step_down(&self, at: usize, value: u8, from: &State, to: &mut State, first: usize)
+        requires position { at < self.now.len }
+        requires value { value < 128 }
+        requires from { HasShape (down_shape self.now.spec) (down_part self.now first from.now) }
+        requires to { HasShape (down_shape self.now.spec) (down_part self.now first to.old) }
+        ensures step { to.new ≡ with_part first (down_step self.now at value (down_part self.now first from.now)) to.old }
+        ensures shape { HasShape (down_shape self.now.spec) (down_part self.now first to.new) }
+    {
+        let spec = &self.spec;
+        let setting = Setting {
+            positions: self.len,
+            position: at as u16,
+            value,
+            best: 0,
+            args: self.args.as_slice(),
+            down: part(from.as_slice(), first, spec.down.as_slice().len()),
+            up: &[],
+        };
+        write_steps(spec.down_step.as_slice(), &setting, to, first);
+    }
+
+    /// Writes the up state before a value at a position, of the one after it in `from`, over the
+    /// properties of `to`; all others stay.
+    pub fn step_up(&self, at: usize, value: u8, from: &State, to: &mut State, first: usize)
+        requires position { at < self.now.len }
+        requires value { value < 128 }
+        requires from { HasShape (up_shape self.now.spec) (up_part self.now first from.now) }
+        requires to { HasShape (up_shape self.now.spec) (up_part self.now first to.old) }
+        ensures step { to.new ≡ with_part first (up_step self.now at value (up_part self.now first from.now)) to.old }
+        ensures shape { HasShape (up_shape self.now.spec) (up_part self.now first to.new) }
+    {
+        let spec = &self.spec;
+        let setting = Setting {
+            positions: self.len,
+            position: at as u16,
+            value,
+            best: 0,
+            args: self.args.as_slice(),
+            down: &[],
+            up: part(from.as_slice(), first, spec.up.as_slice().len()),
+        };
+        write_steps(spec.up_step.as_slice(), &setting, to, first);
+    }
+
+    /// Whether the test holds of a value at a position, the down state before it, which begins at
+    /// the place `first_down` of `down`, and the up state after it, at `first_up` of `up`.
+    pub fn passes(
+        &self,
+        at: usize,
+        value: u8,
+        down: &State,
+        first_down: usize,
+        up: &State,
+        first_up: usize,
+        best: i64,
+    ) -> bool
+        requires position { at < self.now.len }
+        requires value { value < 128 }
+        requires down { HasShape (down_shape self.now.spec) (down_part self.now first_down down.now) }
+        requires up { HasShape (up_shape self.now.spec) (up_part self.now first_up up.now) }
+        ensures { result ≡ test_passes self.now at value (down_part self.now first_down down.now) (up_part self.now first_up up.now) best }
+    {
+        let spec = &self.spec;
+        let setting = Setting {
+            positions: self.len,
+            position: at as u16,
+            value,
+            best,
+            args: self.args.as_slice(),
+            down: part(down.as_slice(), first_down, spec.down.as_slice().len()),
+            up: part(up.as_slice(), first_up, spec.up.as_slice().len()),
+        };
+        holds(&spec.test, &setting)
+    }
+
+    /// Whether the exact run accepts the values: at each position the test holds of the down state
+    /// before it, the value, and the up state after it.
+    pub fn accepts(&self, alloc: Global, values: &[u8], best: i64) -> Result<bool, AllocError>
+        requires length { length values.now ≡ self.now.len }
+        requires values { All (λ value. value < 128) values.now }
+        ensures { IfOk result (λ accepted. IsTrue accepted ↔ Accepts self.now best values.now) }
+    {
+        let spec = &self.spec;
+        let mut ups = up_states(alloc, self, values)?;
+        let mut down = initial_state(alloc, spec.down.as_slice())?;
+        for position in 0..values.len() {
+            let Some(up) = ups.pop() else { unreachable!() };
+            let value = values[position];
+            if !passes_alone(self, position, value, &down, &up, best) {
+                return Ok(false);
+            }
+            down = stepped_down(self, position, value, &down)?;
+        }
+        Ok(true)
+    }
+}

@@ -1,0 +1,97 @@
+//! The states of an exact run over a list of values.
+ghost use Rattle.std.specs.Prelude.{◌≡◌, ℕ, ◌<◌, length, reverse, IfOk, All};
+ghost use Rattle.hk_kinds.specs.Shapes.{HasShape};
+ghost use Rattle.hk_spec.specs.Runs.{exact_ups};
+ghost use Rattle.hk_spec.specs.Specifications.{initial_values, down_shape, up_shape};
+ghost use Rattle.hk_spec.specs.Steps.{down_step, up_step, test_passes};
+
+use crate::bindings::Bound;
+use crate::parts::PropDecl;
+use hk_kinds::State;
+use std::alloc::{AllocError, Global};
+
+/// The state of the initial values of properties.
+pub fn initial_state(alloc: Global, properties: &[PropDecl]) -> Result<State, AllocError>
+    ensures { IfOk result (λ state. state ≡ initial_values properties.now) }
+{
+    let mut state = State::new(alloc);
+    for property in properties {
+        state.push(property.init)?;
+    }
+    Ok(state)
+}
+
+/// The down state after a value at a position.
+pub fn stepped_down(
+    bound: &Bound,
+    position: usize,
+    value: u8,
+    down: &State,
+) -> Result<State, AllocError>
+    requires position { position < bound.now.len }
+    requires value { value < 128 }
+    requires shape { HasShape (down_shape bound.now.spec) down.now }
+    ensures step { IfOk result (λ next. next ≡ down_step bound.now position value down.now) }
+    ensures shape { IfOk result (λ next. HasShape (down_shape bound.now.spec) next) }
+{
+    prove!(position < usize::from(bound.len));
+    let mut next = down.copy()?;
+    bound.step_down(position, value, down, &mut next, 0);
+    Ok(next)
+}
+
+/// The up state before a value at a position.
+pub fn stepped_up(
+    bound: &Bound,
+    position: usize,
+    value: u8,
+    up: &State,
+) -> Result<State, AllocError>
+    requires position { position < bound.now.len }
+    requires value { value < 128 }
+    requires shape { HasShape (up_shape bound.now.spec) up.now }
+    ensures step { IfOk result (λ next. next ≡ up_step bound.now position value up.now) }
+    ensures shape { IfOk result (λ next. HasShape (up_shape bound.now.spec) next) }
+{
+    prove!(position < usize::from(bound.len));
+    let mut next = up.copy()?;
+    bound.step_up(position, value, up, &mut next, 0);
+    Ok(next)
+}
+
+/// Whether the test holds of a value at a position, of states of their own.
+pub fn passes_alone(
+    bound: &Bound,
+    position: usize,
+    value: u8,
+    down: &State,
+    up: &State,
+    best: i64,
+) -> bool
+    requires position { position < bound.now.len }
+    requires value { value < 128 }
+    requires down { HasShape (down_shape bound.now.spec) down.now }
+    requires up { HasShape (up_shape bound.now.spec) up.now }
+    ensures { result ≡ test_passes bound.now position value down.now up.now best }
+{
+    bound.passes(position, value, down, 0, up, 0, best)
+}
+
+/// The up states after each position, the last first.
+pub fn up_states(alloc: Global, bound: &Bound, values: &[u8]) -> Result<Vec<State>, AllocError>
+    requires length { length values.now ≡ bound.now.len }
+    requires values { All (λ value. value < 128) values.now }
+    ensures { IfOk result (λ ups. ups.items ≡ reverse (exact_ups bound.now 0 values.now)) }
+{
+    let spec = &bound.spec;
+    let mut ups = Vec::with_capacity(alloc, values.len())?;
+    let mut up = initial_state(alloc, spec.up.as_slice())?;
+    let mut position = values.len();
+    'back: while position > 0 {
+        position -= 1;
+        let before = stepped_up(bound, position, values[position], &up)?;
+        ups.push(up)?;
+        up = before;
+    }
+    Ok(ups)
+}

@@ -1,0 +1,42 @@
+//! The steps of a state, written in place.
+ghost use Rattle.std.specs.Prelude.{◌≡◌, ◌≤◌, length, map, drop};
+ghost use Rattle.hk_spec.specs.Steps.{step_value, part_at, with_part};
+
+use crate::parts::StepExpr;
+use crate::settings::Setting;
+use crate::values::{num_value, set_value};
+use hk_kinds::{Prop, State};
+
+/// The value that a step gives its property.
+pub fn step_value(e: &StepExpr, at: &Setting<'_>) -> Prop
+    ensures { result ≡ step_value at.now e.now }
+{
+    match e {
+        StepExpr::Num(e) => Prop::Num(num_value(e, at)),
+        StepExpr::Pair(low, high) => Prop::Pair(num_value(low, at), num_value(high, at)),
+        StepExpr::Set(e) => Prop::Bits(set_value(e, at)),
+    }
+}
+
+/// Writes the values of steps over the properties of a state from a place on.
+pub fn write_steps(steps: &[StepExpr], at: &Setting<'_>, to: &mut State, first: usize)
+    requires { length steps.now ≤ length (drop first to.old) }
+    ensures { to.new ≡ with_part first (map (step_value at.now) steps.now) to.old }
+{
+    // The places of a state fit their type, as those of a slice do.
+    let _properties = to.as_slice();
+    for i in 0..steps.len() {
+        to.set(first + i, step_value(&steps[i], at));
+    }
+}
+
+/// The properties of a state from a place on, as many as asked.
+pub fn part(state: &[Prop], first: usize, count: usize) -> &[Prop]
+    requires { count ≤ length (drop first state.now) }
+    ensures { result.now ≡ part_at first count state.now }
+{
+    if count == 0 {
+        return &[];
+    }
+    &state[first..first + count]
+}

@@ -1,0 +1,119 @@
+//! The values of expressions.
+ghost use Rattle.std.specs.Prelude.{◌≡◌, ◌+ℤ◌, ◌-ℤ◌, ◌*ℤ◌, ◌==◌, ◌^◌, ◌<◌, bit_and};
+ghost use Rattle.std.specs.Int.{bit_at};
+ghost use Rattle.hk_kinds.specs.Limits.{clamped};
+ghost use Rattle.hk_spec.specs.Values.{num_value, set_value, cond_holds, set_without};
+
+use crate::expressions::{Cond, NumExpr, SetExpr};
+use crate::places::{
+    high_at, item_argument, low_at, number_argument, number_at, set_argument, set_at,
+};
+use crate::settings::Setting;
+use hk_kinds::clamp;
+
+/// The value of a set expression.
+pub fn set_value(e: &SetExpr, at: &Setting<'_>) -> u128
+    ensures { result ≡ set_value at.now e.now }
+{
+    match e {
+        SetExpr::Lit(set) => *set,
+        SetExpr::One => one_value(at.value),
+        SetExpr::Param(place) => set_argument(at.args, *place),
+        SetExpr::Bits(side, place) => set_at(at.state(*side), *place),
+        SetExpr::Union(a, b) => set_value(a.get(), at) | set_value(b.get(), at),
+        SetExpr::Common(a, b) => set_value(a.get(), at) & set_value(b.get(), at),
+        SetExpr::Without(a, b) => without(set_value(a.get(), at), set_value(b.get(), at)),
+    }
+}
+
+/// The value of a number expression.
+pub fn num_value(e: &NumExpr, at: &Setting<'_>) -> i64
+    ensures { result ≡ num_value at.now e.now }
+{
+    match e {
+        NumExpr::Lit(n) => *n,
+        NumExpr::Value => i64::from(at.value),
+        NumExpr::Index => i64::from(at.position),
+        NumExpr::Length => i64::from(at.positions),
+        NumExpr::Best => at.best,
+        NumExpr::Param(place) => number_argument(at.args, *place),
+        NumExpr::Item(place) => item_argument(at.args, *place, at.position),
+        NumExpr::Number(side, place) => number_at(at.state(*side), *place),
+        NumExpr::Low(side, place) => low_at(at.state(*side), *place),
+        NumExpr::High(side, place) => high_at(at.state(*side), *place),
+        NumExpr::Card(set) => i64::from(set_value(set.get(), at).count_ones()),
+        NumExpr::Add(a, b) => sum(num_value(a.get(), at), num_value(b.get(), at)),
+        NumExpr::Least(a, b) => num_value(a.get(), at).min(num_value(b.get(), at)),
+        NumExpr::Most(a, b) => num_value(a.get(), at).max(num_value(b.get(), at)),
+        NumExpr::Minus(a, b) => difference(num_value(a.get(), at), num_value(b.get(), at)),
+        NumExpr::Negative(a) => difference(0, num_value(a.get(), at)),
+        NumExpr::Times(a, b) => product(num_value(a.get(), at), num_value(b.get(), at)),
+    }
+}
+
+/// Whether a condition holds.
+pub fn holds(p: &Cond, at: &Setting<'_>) -> bool
+    ensures { result ≡ cond_holds at.now p.now }
+{
+    match p {
+        Cond::Always => true,
+        Cond::Never => false,
+        Cond::AtMost(a, b) => num_value(a.get(), at) <= num_value(b.get(), at),
+        Cond::Below(a, b) => num_value(a.get(), at) < num_value(b.get(), at),
+        Cond::AtLeast(a, b) => num_value(a.get(), at) >= num_value(b.get(), at),
+        Cond::Above(a, b) => num_value(a.get(), at) > num_value(b.get(), at),
+        Cond::Equal(a, b) => num_value(a.get(), at) == num_value(b.get(), at),
+        Cond::Has(set) => has(set_value(set.get(), at), at.value),
+        Cond::Lacks(set) => !has(set_value(set.get(), at), at.value),
+        Cond::Subset(a, b) => is_within(set_value(a.get(), at), set_value(b.get(), at)),
+        Cond::Both(p, q) => holds(p.get(), at) && holds(q.get(), at),
+        Cond::Either(p, q) => holds(p.get(), at) || holds(q.get(), at),
+        Cond::Not(p) => !holds(p.get(), at),
+    }
+}
+
+fn sum(a: i64, b: i64) -> i64
+    ensures { result ≡ clamped (a +ℤ b) }
+{
+    clamp(i128::from(a) + i128::from(b))
+}
+
+fn difference(a: i64, b: i64) -> i64
+    ensures { result ≡ clamped (a -ℤ b) }
+{
+    clamp(i128::from(a) - i128::from(b))
+}
+
+fn product(a: i64, b: i64) -> i64
+    ensures { result ≡ clamped (a *ℤ b) }
+{
+    clamp(i128::from(a) * i128::from(b))
+}
+
+fn one_value(value: u8) -> u128
+    requires { value < 128 }
+    ensures { result ≡ 2 ^ value }
+{
+    1u128 << value
+}
+
+/// The values of the first set that the second does not have.
+fn without(a: u128, b: u128) -> u128
+    ensures { result ≡ set_without a b }
+{
+    a ^ (a & b)
+}
+
+fn has(set: u128, value: u8) -> bool
+    requires { value < 128 }
+    ensures { result ≡ (bit_at set value == 1) }
+{
+    (set >> value) & 1 == 1
+}
+
+/// Whether the first set is a subset of the second.
+fn is_within(a: u128, b: u128) -> bool
+    ensures { result ≡ (bit_and a b == a) }
+{
+    a & b == a
+}
