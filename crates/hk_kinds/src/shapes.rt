@@ -39,6 +39,7 @@ impl Shape1 {
         Ok(())
     }
 
+    /// The kinds, first to last.
     pub fn as_slice(&self) -> &[Kind]
         ensures { result.now ≡ self.now }
     {

@@ -47,6 +47,7 @@ impl State {
         Ok(())
     }
 
+    /// The properties, first to last.
     pub fn as_slice(&self) -> &[Prop]
         ensures { result.now ≡ self.now }
     {
