@@ -1,5 +1,5 @@
 -- Decimal digits, as they are read and written one by one.
-use Rattle.std.proofs.Common.{◌≡◌, ℕ, ◌+◌, ◌-◌, ◌*◌, ◌/◌, ◌%◌, ◌^◌, ◌<◌, ◌≤◌, true, false, List, [], ◌∷◌, ◌++◌, length, get_or, set, take, drop, sym, ap, ◌∙◌, append_assoc, arith, lit<}
+use Rattle.std.proofs.Common.{◌≡◌, ℕ, ◌+◌, ◌-◌, ◌*◌, ◌/◌, ◌%◌, ◌^◌, ◌<◌, ◌≤◌, true, false, List, [], ◌∷◌, ◌++◌, length, min, get_or, set, take, drop, sym, ap, ◌∙◌, append_assoc, arith, lit<}
 use Rattle.std.specs.Char.{is_ascii_digit}
 use Rattle.std.specs.Fmt.{decimal}
 use Rattle.std.specs.Int.{IsInRange}
@@ -9,7 +9,8 @@ use Rattle.std.proofs.lemmas.Fmt.{decimal_digit, decimal_step, decimal_nonempty,
 use Rattle.std.proofs.lemmas.Int.Digits.{digits_more, digits_value_more}
 use Rattle.std.proofs.lemmas.List.{length-append, length-drop, drop-set}
 use Rattle.std.proofs.lemmas.Str.{digit_value_digit}
-use Rattle.std.proofs.lemmas.Str.Parse.{digit_at, digits_value-take-le}
+use Rattle.std.proofs.lemmas.Str.Parse.{digit_at}
+use Rattle.std.proofs.Math.Nat.{min-le_left, min-le_right, min-eq_left, min-eq_right}
 use Rattle.hk_text.specs.Numbers.{IsNumber}
 
 digit_in_range : (b : ℕ) → is_ascii_digit b ≡ true → IsInRange 48 57 b
@@ -31,13 +32,13 @@ digits_next text i inside digit all =
 pub no_number : (text : List ℕ) (i n : ℕ) → i < length text → is_ascii_digit (get_or text i 0) ≡ false → IsNumber text n → ⊥
 no_number text i n inside other number = let range = digit_at text i number.digits inside in grind (arith, nat_tests)
 
+-- a number that is capped, and one digit more: it is capped once again
+pub capped_next : (whole value most digit : ℕ) → most < 2 ^ 64 → value ≡ min whole most → min (min (min (value * 10) (2 ^ 64 - 1) + digit) (2 ^ 64 - 1)) most ≡ min (whole * 10 + digit) most
+capped_next whole value most digit fits is = grind (arith, min-le_left, min-le_right, min-eq_left, min-eq_right)
+
 -- a text writes at most one number
 pub IsNumber-one : (text : List ℕ) (m n : ℕ) → IsNumber text m → IsNumber text n → m ≡ n
 IsNumber-one text m n one other = sym one.value ∙ other.value
-
--- a number is at least what its first digits write
-pub IsNumber-take-le : (text : List ℕ) (i value n : ℕ) → digits_value 10 (take i text) ≡ value → IsNumber text n → value ≤ n
-IsNumber-take-le text i value n is number = omega (arith, is, number.value, digits_value-take-le 10 text i (omega arith))
 
 -- while digits are written into a text of twenty bytes, there is room for one more
 pub room : (n left start : ℕ) (text : List ℕ) → n ≤ 2 ^ 63 → left ≤ n → length text ≡ 20 → start < length text → decimal n ≡ decimal left ++ drop (start + 1) text → 0 < start

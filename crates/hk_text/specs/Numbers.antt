@@ -1,5 +1,5 @@
 -- Numbers in decimal.
-use Rattle.std.specs.Prelude.{◌≡◌, ◌≢◌, List, [], ◌∷◌, ℕ}
+use Rattle.std.specs.Prelude.{◌≡◌, ◌≢◌, List, [], ◌∷◌, ℕ, min}
 use Rattle.std.specs.Str.Parse.{AllDigits, digits_value}
 
 -- the text has a byte, and no `0` in front of another
@@ -13,3 +13,9 @@ pub record IsNumber (text : List ℕ) (n : ℕ) : Type 0 where
   pub plain : IsPlain text
   pub digits : AllDigits 10 text
   pub value : digits_value 10 text ≡ n
+
+-- the value is that of the number that the text writes, or `most` where that is less
+pub record IsNumberUpTo (text : List ℕ) (most value : ℕ) : Type 0 where
+  pub n : ℕ
+  pub number : IsNumber text n
+  pub value_is : value ≡ min n most

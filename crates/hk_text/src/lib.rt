@@ -5,7 +5,7 @@
 
 pub use lexemes::TokenKind;
 pub use lines::split_line;
-pub use numbers::{number_of, push_number};
+pub use numbers::{number_up_to, push_number};
 pub use readings::one_reading;
 pub use texts::{has_text, text_of};
 pub use tokenizer::{TextFault, Token, tokens};

@@ -1,6 +1,6 @@
 ghost use Rattle.std.specs.Prelude.{◌≡◌, ◌≤◌, ◌<◌, ◌^◌, ◌++◌, ℕ, drop, length, IfSome, IsNone, IsTrue, ◌↔◌, OnOk, OnErr};
 ghost use Rattle.std.specs.Fmt.{decimal, signed_decimal};
-ghost use Rattle.hk_text.specs.Numbers.{IsNumber, IsPlain};
+ghost use Rattle.hk_text.specs.Numbers.{IsNumber, IsNumberUpTo, IsPlain};
 
 use hk_base::Bytes;
 use std::alloc::AllocError;
@@ -8,28 +8,26 @@ use std::alloc::AllocError;
 /// The sign and the digits of any `i64` fit into as many bytes.
 const LONGEST: usize = 20;
 
-/// The number that the text writes, where it is a number without a needless zero and at most
-/// `limit`.
-pub fn number_of(text: &[u8], limit: u32) -> Option<u32>
-    ensures number { IfSome result (IsNumber text.now) }
-    ensures within { IfSome result (λ n. n ≤ limit) }
-    ensures none { IsNone result → (n : ℕ) → IsNumber text.now n → limit < n }
+/// The number that the text writes, or `most` where it is greater. None where the text is no number,
+/// or one with a needless zero. A number may have any length.
+pub fn number_up_to(text: &[u8], most: u64) -> Option<u64>
+    ensures some { IfSome result (IsNumberUpTo text.now most) }
+    ensures none { IsNone result → (n : ℕ) → IsNumber text.now n → ⊥ }
 {
     if !is_plain(text) {
         return None;
     }
-    let limit = u64::from(limit);
-    let mut value = 0;
+    let mut value = 0u64;
     for digit in text {
         if !digit.is_ascii_digit() {
             return None;
         }
-        value = value * 10 + u64::from(*digit - b'0');
-        if value > limit {
-            return None;
-        }
+        value = value
+            .saturating_mul(10)
+            .saturating_add(u64::from(*digit - b'0'))
+            .min(most);
     }
-    Some(value as u32)
+    Some(value)
 }
 
 /// Whether the text has a byte, and no `0` in front of another.

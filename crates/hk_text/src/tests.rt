@@ -1,4 +1,6 @@
-use crate::{TextFault, TokenKind, has_text, number_of, push_number, split_line, text_of, tokens};
+use crate::{
+    TextFault, TokenKind, has_text, number_up_to, push_number, split_line, text_of, tokens,
+};
 use hk_base::Bytes;
 use std::test::Fail;
 
@@ -30,12 +32,13 @@ fn reads_and_writes_numbers(rt: HostRuntime) -> Result<(), Fail> {
         ("0", Some(0)),
         ("01", None),
         ("127", Some(127)),
-        ("128", None),
+        ("128", Some(127)),
         ("", None),
-        ("1234567890123456789012345678901234567890", None),
+        ("x", None),
+        ("1234567890123456789012345678901234567890", Some(127)),
     ];
     for (text, expected) in rows {
-        assert_eq!(rt; number_of(text.as_bytes(), 127), expected);
+        assert_eq!(rt; number_up_to(text.as_bytes(), 127), expected);
     }
     let mut out = Bytes::new(rt.alloc());
     for n in [0, -1, i64::MIN, i64::MAX] {
