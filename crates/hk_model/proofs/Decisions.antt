@@ -1,5 +1,5 @@
 -- Facts of texts that hold or fail: each is decided.
-use Rattle.std.proofs.Common.{◌≡◌, ℕ, suc, zero, ◌-◌, ◌<◌, Bool, true, false, List, [], ◌∷◌, length, refl, subst, arith}
+use Rattle.std.proofs.Common.{◌≡◌, ℕ, suc, zero, ◌-◌, ◌<◌, ◌⊎◌, inl, inr, Bool, true, false, List, [], ◌∷◌, length, refl, subst, arith}
 use Rattle.std.specs.Prelude.{All}
 use Rattle.std.specs.Bool.{Decides}
 use Rattle.std.specs.Char.{digit_value}
@@ -32,6 +32,16 @@ dec_both (yes a) (yes b) = yes (a, b)
 dec_both (yes a) (no b) = no (λ both. b both.1)
 dec_both (no a) b = no (λ both. a both.0)
 
+-- one fact or another
+pub dec_either : {A B : Type 0} → Dec A → Dec B → Dec (A ⊎ B)
+dec_either (yes a) b = yes (inl a)
+dec_either (no a) (yes b) = yes (inr b)
+dec_either {A = A} {B = B} (no a) (no b) = no neither
+  where
+    neither : A ⊎ B → ⊥
+    neither (inl x) = a x
+    neither (inr y) = b y
+
 -- a fact's opposite
 pub dec_not : {A : Type 0} → Dec A → Dec (A → ⊥)
 dec_not (yes a) = no (λ none. none a)
@@ -58,6 +68,11 @@ dec_below {P = P} each (suc n) = by (each n) (dec_below each n)
 pub dec_all : {X : Type 0} (P : X → Type 0) → ((x : X) → Dec (P x)) → (xs : List X) → Dec (All P xs)
 dec_all P each [] = yes (All-nil P)
 dec_all P each (x ∷ xs) = map_dec (λ both. All-cons P x xs both.0 both.1) (λ all. (All-head P x xs all, All-tail P x xs all)) (dec_both (each x) (dec_all P each xs))
+
+-- that a list is empty
+pub dec_empty : {X : Type 0} (xs : List X) → Dec (xs ≡ [])
+dec_empty [] = yes refl
+dec_empty (x ∷ xs) = no (λ same. cc)
 
 -- that numbers rise
 pub dec_rising : (xs : List ℕ) → Dec (IsStrictlyIncreasing xs)

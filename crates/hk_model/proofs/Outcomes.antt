@@ -1,12 +1,15 @@
 -- The bytes of a model have one outcome: the problem that they spell, or their refusal.
-use Rattle.std.proofs.Common.{◌≡◌, ℕ, ◌+◌, ◌↔◌, List, [], ◌∷◌, ◌++◌, length, Option, None, Some, refl, sym, ap, subst, ◌∙◌, append_assoc, ◌⊎◌, inl, inr}
+use Rattle.std.proofs.Common.{◌≡◌, ℕ, ◌+◌, List, [], ◌∷◌, ◌++◌, length, Option, None, Some, refl, sym, ap, subst, ◌∙◌, append_assoc, ◌⊎◌, inl, inr}
 use Rattle.std.proofs.lemmas.List.{append-nil}
 use Rattle.hk_text.specs.Lines.{lines}
 use Rattle.hk_model.specs.declared.refusal.RefusalKind.{RefusalKind}
-use Rattle.hk_model.specs.declared.refusal.RefusalKind.TheVariants.{Later, Bad}
+use Rattle.hk_model.specs.declared.refusal.RefusalKind.TheVariants.{Unfinished}
+use Rattle.hk_model.specs.LineFaults.{IsFirstFault}
+use Rattle.hk_model.specs.Models.{IsGoodLine, AreGoodLines, no_line, then_line, Spells, IsBadLine, IsFirstBadLine}
 use Rattle.hk_model.specs.Problems.{PlainProblem}
-use Rattle.hk_model.specs.Models.{IsGoodLine, AreGoodLines, no_line, then_line, Spells, IsBadLine, IsLaterLine, IsFirstBadLine, IsRefusal, refused_line, no_header}
-use Rattle.hk_model.proofs.EachLine.{Judged, found_good, found_bad, judged, dec_later}
+use Rattle.hk_model.specs.Refused.{IsRefusal, refused_line, no_header}
+use Rattle.hk_model.proofs.EachLine.{Judged, found_good, found_fault, judged}
+use Rattle.hk_model.proofs.FaultRanks.{first_fault_one, fault_bad}
 use Rattle.hk_model.proofs.Grammar.{good_line_one}
 use Rattle.hk_model.proofs.GoodLines.{good_lines_one, good_lines_more}
 
@@ -27,7 +30,7 @@ all_good {after = after} goods first =
 
 -- bytes that spell a problem are not refused
 pub no_refusal : (bytes : List ℕ) (p : PlainProblem) (number : ℕ) (kind : RefusalKind) → Spells bytes p → IsRefusal bytes number kind → ⊥
-no_refusal bytes p number kind goods (refused_line first is_kind) = all_good goods first
+no_refusal bytes p number kind goods (refused_line first fault) = all_good goods first
 no_refusal bytes p number kind goods (no_header goods') = let same = good_lines_one goods goods' in cc
 
 -- two bad lines, each after good ones, are one line after the same good ones
@@ -52,35 +55,20 @@ same_first (first ∷ front) (first' ∷ front') rest rest' {line = line} {line'
     let more = same_first front front' rest rest' later goods (subst (λ b. AreGoodLines b front' before') between_same goods') bad bad' in
     record { fronts = (let tails = more.fronts in cc); here = more.here; befores = more.befores }
 
--- the kinds of a line's refusals are one kind
-same_kind : {P : Type 0} (j k : RefusalKind) → ((j ≡ Later) ↔ P) → ((k ≡ Later) ↔ P) → j ≡ k
-same_kind Later Later x y = refl
-same_kind Later Bad x y = let e = y.1 (x.0 refl) in cc
-same_kind Bad Later x y = let e = x.1 (y.0 refl) in cc
-same_kind Bad Bad x y = refl
-
 -- first bad lines of one text are refused alike
-same_refused : {bytes line line' : List ℕ} {number number' : ℕ} {before before' : Option PlainProblem} {kind kind' : RefusalKind} → IsFirstBadLine bytes number line before → IsFirstBadLine bytes number' line' before' → ((kind ≡ Later) ↔ IsLaterLine before line) → ((kind' ≡ Later) ↔ IsLaterLine before' line') → (number ≡ number') × (kind ≡ kind')
-same_refused {line = line} {line' = line'} {before = before} {before' = before'} {kind = kind} {kind' = kind'} x y is_kind is_kind' =
+same_refused : {bytes line line' : List ℕ} {number number' : ℕ} {before before' : Option PlainProblem} {kind kind' : RefusalKind} → IsFirstBadLine bytes number line before → IsFirstBadLine bytes number' line' before' → IsFirstFault before line kind → IsFirstFault before' line' kind' → (number ≡ number') × (kind ≡ kind')
+same_refused {line = line} {before' = before'} {kind' = kind'} x y fault fault' =
     let same = same_first x.front y.front x.rest y.rest (sym x.parts ∙ y.parts) x.good y.good x.bad y.bad in (
       x.counted ∙ ap (λ front. length front + 1) same.fronts ∙ sym y.counted,
-      same_kind kind kind' is_kind (subst (λ b. (kind' ≡ Later) ↔ IsLaterLine b line) (sym same.befores) (subst (λ l. (kind' ≡ Later) ↔ IsLaterLine before' l) (sym same.here) is_kind')),
+      first_fault_one fault (subst (λ b. IsFirstFault b line kind') (sym same.befores) (subst (λ l. IsFirstFault before' l kind') (sym same.here) fault')),
     )
 
 -- bytes have one refusal
 pub one_refusal : (bytes : List ℕ) (number number' : ℕ) (kind kind' : RefusalKind) → IsRefusal bytes number kind → IsRefusal bytes number' kind' → (number ≡ number') × (kind ≡ kind')
-one_refusal bytes number number' kind kind' (refused_line x is_kind) (refused_line y is_kind') = same_refused x y is_kind is_kind'
-one_refusal bytes number number' kind kind' (refused_line x is_kind) (no_header goods) = absurd (all_good goods x)
-one_refusal bytes number number' kind kind' (no_header goods) (refused_line y is_kind') = absurd (all_good goods y)
+one_refusal bytes number number' kind kind' (refused_line x fault) (refused_line y fault') = same_refused x y fault fault'
+one_refusal bytes number number' kind kind' (refused_line x fault) (no_header goods) = absurd (all_good goods x)
+one_refusal bytes number number' kind kind' (no_header goods) (refused_line y fault) = absurd (all_good goods y)
 one_refusal bytes number number' kind kind' (no_header goods) (no_header goods') = (refl, refl)
-
--- a first bad line is refused, as one kind or the other
-first_bad_refused : {bytes line : List ℕ} {number : ℕ} {before : Option PlainProblem} → IsFirstBadLine bytes number line before → (kind : RefusalKind) × IsRefusal bytes number kind
-first_bad_refused {bytes = bytes} {line = line} {number = number} {before = before} first = by (dec_later before line)
-  where
-    by : Dec (IsLaterLine before line) → (kind : RefusalKind) × IsRefusal bytes number kind
-    by (yes later) = (Later, refused_line first (λ e. later, λ l. refl))
-    by (no none) = (Bad, refused_line first (λ e. cc, λ later. absurd (none later)))
 
 -- the problem that bytes spell, or their refusal
 abbrev Outcome : List ℕ → Type 0
@@ -88,7 +76,7 @@ Outcome bytes = ((p : PlainProblem) × Spells bytes p) ⊎ ((number : ℕ) × (k
 
 -- bytes whose lines are all good spell a problem, or lack the header
 all_good_outcome : (bytes : List ℕ) (after : Option PlainProblem) → AreGoodLines None (lines bytes) after → Outcome bytes
-all_good_outcome bytes None goods = inr (length (lines bytes) + 1, Bad, no_header goods)
+all_good_outcome bytes None goods = inr (length (lines bytes) + 1, Unfinished, no_header goods)
 all_good_outcome bytes (Some p) goods = inl (p, goods)
 
 module _ (bytes : List ℕ) where
@@ -100,9 +88,9 @@ module _ (bytes : List ℕ) where
     where
       step : ((after : Option PlainProblem) → IsGoodLine before line after → Outcome bytes) → Judged before line → Outcome bytes
       step later (found_good after good) = later after good
-      step later (found_bad bad) =
-          let refused = first_bad_refused {bytes = bytes} (record { front = front; rest = rest; parts = parts; counted = refl; good = goods; bad = bad }) in
-          inr (length front + 1, refused.0, refused.1)
+      step later (found_fault kind fault) =
+          let first : IsFirstBadLine bytes (length front + 1) line before = record { front = front; rest = rest; parts = parts; counted = refl; good = goods; bad = fault_bad fault.fault } in
+          inr (length front + 1, kind, refused_line first fault)
 
 -- bytes spell a problem, or have a refusal
 pub some_outcome : (bytes : List ℕ) → ((p : PlainProblem) × Spells bytes p) ⊎ ((number : ℕ) × (kind : RefusalKind) × IsRefusal bytes number kind)

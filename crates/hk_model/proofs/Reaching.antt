@@ -1,14 +1,15 @@
 -- How far the lines of a model are read.
-use Rattle.std.proofs.Common.{◌≡◌, ℕ, ◌+◌, ◌<◌, ◌≤◌, List, [], ◌∷◌, ◌++◌, length, Option, None, Some, refl, ap, sym, ◌∙◌, subst, arith, append_assoc, length-append}
+use Rattle.std.proofs.Common.{◌≡◌, ℕ, ◌+◌, ◌<◌, ◌≤◌, List, [], ◌∷◌, ◌++◌, length, Option, None, Some, ap, sym, ◌∙◌, subst, arith, append_assoc, length-append}
 use Rattle.std.proofs.lemmas.List.{append-nil, nil_from_length}
 use Rattle.hk_text.specs.Lines.{lines}
 use Rattle.hk_model.specs.declared.faults.LineFault.{LineFault}
-use Rattle.hk_model.specs.declared.faults.LineFault.TheVariants.{Later, Bad, Memory}
+use Rattle.hk_model.specs.declared.faults.LineFault.TheVariants.{Bad, NoMemory}
 use Rattle.hk_model.specs.declared.refusal.ModelError.{ModelError}
-use Rattle.hk_model.specs.declared.refusal.RefusalKind.TheVariants.{Later as LaterKind, Bad as BadKind}
-use Rattle.hk_model.specs.Models.{IsGoodLine, AreGoodLines, IsFirstBadLine, IsRefusal, refused_line, no_header, IsErrorOf}
+use Rattle.hk_model.specs.declared.refusal.RefusalKind.TheVariants.{Unfinished}
+use Rattle.hk_model.specs.Models.{IsGoodLine, AreGoodLines, IsFirstBadLine}
 use Rattle.hk_model.specs.Problems.{PlainProblem, IsValid}
 use Rattle.hk_model.specs.Faults.{IsLineFault, IsErrorAt}
+use Rattle.hk_model.specs.Refused.{IsRefusal, refused_line, no_header, IsErrorOf}
 use Rattle.hk_model.proofs.GoodLines.{good_lines_more, good_lines_valid}
 
 -- the lines before the rest are good, they declare this, and the line of this number is the next
@@ -41,14 +42,8 @@ first_bad after reached first bad = record {
 
 -- the answer where the next line is refused
 pub refused_at : {bytes : List ℕ} {draft : Option PlainProblem} {rest line : List ℕ} {number : ℕ} (after : List ℕ) (fault : LineFault) (error : ModelError) → Reached bytes draft rest number → lines rest ≡ line ∷ lines after → IsLineFault draft line fault → IsErrorAt number fault error → IsErrorOf bytes error
-refused_at {bytes = bytes} after Later error reached first (bad, later) is =
-    subst (IsErrorOf bytes) (sym is) (refused_line (first_bad after reached first bad) (λ _. later, λ _. refl))
-refused_at {bytes = bytes} after Bad error reached first (bad, not_later) is =
-    subst (IsErrorOf bytes) (sym is) (refused_line (first_bad after reached first bad) (λ same. absurd (apart same), λ later. absurd (not_later later)))
-  where
-    apart : BadKind ≡ LaterKind → ⊥
-    apart is = cc
-refused_at {bytes = bytes} after Memory error reached first fault is = subst (IsErrorOf bytes) (sym is) tt
+refused_at {bytes = bytes} after (Bad kind) error reached first (bad, fault) is = subst (IsErrorOf bytes) (sym is) (refused_line (first_bad after reached first bad) fault)
+refused_at {bytes = bytes} after NoMemory error reached first fault is = subst (IsErrorOf bytes) (sym is) tt
 
 -- all lines are read
 pub all_good : {bytes : List ℕ} {draft : Option PlainProblem} {rest : List ℕ} {number : ℕ} → Reached bytes draft rest number → length rest ≡ 0 → AreGoodLines None (lines bytes) draft
@@ -57,11 +52,11 @@ all_good {draft = draft} {rest = rest} reached over =
     subst (λ ls. AreGoodLines None ls draft) (sym whole) reached.good
 
 -- the answer where no line is the header
-pub unfinished : {bytes rest : List ℕ} {number : ℕ} (error : ModelError) → Reached bytes None rest number → length rest ≡ 0 → IsErrorAt number Bad error → IsErrorOf bytes error
+pub unfinished : {bytes rest : List ℕ} {number : ℕ} (error : ModelError) → Reached bytes None rest number → length rest ≡ 0 → IsErrorAt number (Bad Unfinished) error → IsErrorOf bytes error
 unfinished {bytes} {rest} {number} error reached over is =
     let whole = reached.parts ∙ ap (λ r. reached.done ++ lines r) (nil_from_length rest over) ∙ append-nil reached.done in
     let last : length (lines bytes) + 1 ≡ number = ap (λ ls. length ls + 1) whole ∙ sym reached.counted in
-    subst (IsErrorOf bytes) (sym is) (subst (λ n. IsRefusal bytes n BadKind) last (no_header (all_good reached over)))
+    subst (IsErrorOf bytes) (sym is) (subst (λ n. IsRefusal bytes n Unfinished) last (no_header (all_good reached over)))
 
 -- what is declared at the end is valid
 pub all_valid : {bytes rest : List ℕ} {number : ℕ} (problem : PlainProblem) → Reached bytes (Some problem) rest number → IsValid problem

@@ -1,132 +1,95 @@
 -- What texts say is decided.
-use Rattle.std.proofs.Common.{◌≡◌, ℕ, List, [], ◌∷◌, ap, subst}
+use Rattle.std.proofs.Common.{◌≡◌, ℕ, ◌⊎◌, inl, inr, ℤ, List, [], ◌∷◌, refl, ap, subst, ◌∙◌}
 use Rattle.std.specs.Prelude.{All, codes}
 use Rattle.std.proofs.Math.Decide.{map_dec}
 use Rattle.hk_text.specs.Lexemes.{IsWord}
-use Rattle.hk_text.specs.Numbers.{IsNumber}
-use Rattle.hk_model.specs.Statements.{Statement, Header, Variable, Distinct, Says, says_header, says_variable, says_distinct, scope_end}
-use Rattle.hk_model.proofs.Grammar.{scope_end_one}
-use Rattle.hk_model.proofs.Decisions.{dec_both, dec_all, dec_text, dec_texts, dec_word, dec_number}
+use Rattle.hk_model.specs.Phrases.{Values, Term, SetThen, TermsThen, BoundsThen}
+use Rattle.hk_model.specs.Statements.{Statement, Header, Variable, Distinct, Total, Objective, Says, says_header, says_variable, says_distinct, says_total, says_objective, scope_end}
+use Rattle.hk_model.proofs.Decisions.{dec_both, dec_either, dec_all, dec_text, dec_texts, dec_word}
+use Rattle.hk_model.proofs.Finding.{Begins, dec_begins, After, dec_after, Finds, dec_terms, dec_whole_set, dec_whole_terms, dec_whole_bounds}
 
--- texts with the words of a variable's line at their places
-record VariableTexts (texts : List (List ℕ)) : Type 0 where
-  name : List ℕ
-  from : List ℕ
-  to : List ℕ
-  are : texts ≡ codes "var" ∷ name ∷ codes "in" ∷ from ∷ codes ".." ∷ to ∷ []
+-- the end of a scope whose further names have a property
+abbrev Closes : (List (List ℕ) → Type 0) → List (List ℕ) → Type 0
+Closes K texts = (names : List (List ℕ)) × (texts ≡ scope_end names) × K names
 
--- whether texts have the words of a variable's line at their places
-dec_variable_texts : (texts : List (List ℕ)) → Dec (VariableTexts texts)
-dec_variable_texts (v ∷ name ∷ i ∷ from ∷ d ∷ to ∷ []) = map_dec
-    (λ same. record { name = name; from = from; to = to; are = same })
-    (λ parts. let are = parts.are in cc)
-    (dec_texts (v ∷ name ∷ i ∷ from ∷ d ∷ to ∷ []) (codes "var" ∷ name ∷ codes "in" ∷ from ∷ codes ".." ∷ to ∷ []))
-dec_variable_texts _ = no (λ parts. let are = parts.are in cc)
-
--- texts that say a variable
-record SaysVariable (texts : List (List ℕ)) : Type 0 where
-  parts : VariableTexts texts
-  word : IsWord parts.name
-  first : (n : ℕ) × IsNumber parts.from n
-  last : (n : ℕ) × IsNumber parts.to n
-
-module _ {texts : List (List ℕ)} (parts : VariableTexts texts) where
-  -- the same parts, where others are at hand
-  with_parts : (others : SaysVariable texts) → IsWord parts.name × ((n : ℕ) × IsNumber parts.from n) × ((n : ℕ) × IsNumber parts.to n)
-  with_parts others =
-      let are = parts.are in
-      let theirs = others.parts.are in
-      let names : others.parts.name ≡ parts.name = cc in
-      let froms : others.parts.from ≡ parts.from = cc in
-      let tos : others.parts.to ≡ parts.to = cc in (
-        subst IsWord names others.word,
-        subst (λ text. (n : ℕ) × IsNumber text n) froms others.first,
-        subst (λ text. (n : ℕ) × IsNumber text n) tos others.last,
-      )
-
--- whether texts say a variable
-dec_variable : (texts : List (List ℕ)) → Dec (SaysVariable texts)
-dec_variable texts = by (dec_variable_texts texts)
+-- whether texts are such an end
+dec_closes : (K : List (List ℕ) → Type 0) → ((names : List (List ℕ)) → Dec (K names)) → (texts : List (List ℕ)) → Dec (Closes K texts)
+dec_closes K each [] = no (λ some. at some.0 some.1)
   where
-    by : Dec (VariableTexts texts) → Dec (SaysVariable texts)
-    by (yes parts) = map_dec
-        (λ all. record { parts = parts; word = all.0; first = all.1.0; last = all.1.1 })
-        (λ others. let same = with_parts parts others in (same.0, (same.1, same.2)))
-        (dec_both (dec_word parts.name) (dec_both (dec_number parts.from) (dec_number parts.to)))
-    by (no none) = no (λ says. none says.parts)
-
--- texts that close a scope after further names
-dec_scope_end : (texts : List (List ℕ)) → Dec ((more : List (List ℕ)) × (texts ≡ scope_end more))
-dec_scope_end [] = no (λ some. at some.0 some.1)
-  where
-    at : (more : List (List ℕ)) → [] ≡ scope_end more → ⊥
+    at : (names : List (List ℕ)) → [] ≡ scope_end names → ⊥
     at [] same = cc
-    at (name ∷ more) same = cc
-dec_scope_end (text ∷ []) = map_dec (λ same. ([], ap (λ t. t ∷ []) same)) (λ some. at some.0 some.1) (dec_text text (codes ")"))
+    at (name ∷ names) same = cc
+dec_closes K each (text ∷ []) = map_dec
+    (λ both. ([], ap (λ t. t ∷ []) both.0, both.1))
+    (λ some. at some.0 some.1 some.2)
+    (dec_both (dec_text text (codes ")")) (each []))
   where
-    at : (more : List (List ℕ)) → text ∷ [] ≡ scope_end more → text ≡ codes ")"
-    at [] same = cc
-    at (name ∷ more) same = cc
-dec_scope_end (text ∷ name ∷ rest) = map_dec
-    (λ both. (name ∷ both.1.0, (let same = both.0 in let after = both.1.1 in cc)))
-    (λ some. at some.0 some.1)
-    (dec_both (dec_text text (codes ",")) (dec_scope_end rest))
+    at : (names : List (List ℕ)) → text ∷ [] ≡ scope_end names → K names → (text ≡ codes ")") × K []
+    at [] same k = (cc, k)
+    at (name ∷ names) same k = cc
+dec_closes K each (text ∷ name ∷ rest) = map_dec
+    (λ both. (name ∷ both.1.0, ap (λ t. t ∷ name ∷ rest) both.0 ∙ ap (λ r. codes "," ∷ name ∷ r) both.1.1, both.1.2))
+    (λ some. at some.0 some.1 some.2)
+    (dec_both (dec_text text (codes ",")) (dec_closes (λ names. K (name ∷ names)) (λ names. each (name ∷ names)) rest))
   where
-    at : (more : List (List ℕ)) → text ∷ name ∷ rest ≡ scope_end more → (text ≡ codes ",") × ((more : List (List ℕ)) × (rest ≡ scope_end more))
-    at [] same = cc
-    at (other ∷ more) same = (cc, (more, cc))
+    at : (names : List (List ℕ)) → text ∷ name ∷ rest ≡ scope_end names → K names → (text ≡ codes ",") × Closes (λ names. K (name ∷ names)) rest
+    at [] same k = cc
+    at (other ∷ names) same k =
+        let first : other ≡ name = cc in
+        (cc, (names, cc, subst (λ one. K (one ∷ names)) first k))
 
--- texts with the words of a scope's line at their places
-record DistinctTexts (texts : List (List ℕ)) : Type 0 where
-  name : List ℕ
-  more : List (List ℕ)
-  are : texts ≡ codes "alldifferent" ∷ codes "(" ∷ name ∷ scope_end more
+-- the texts of each statement, from part to part
+abbrev IsHeader : List (List ℕ) → Type 0
+IsHeader texts = texts ≡ codes "hkm" ∷ codes "1" ∷ []
 
--- whether texts have the words of a scope's line at their places
-dec_distinct_texts : (texts : List (List ℕ)) → Dec (DistinctTexts texts)
-dec_distinct_texts (word ∷ mark ∷ name ∷ rest) = map_dec
-    (λ all. record { name = name; more = all.1.1.0; are = (let words = all.0 in let marks = all.1.0 in let ends = all.1.1.1 in cc) })
-    (λ parts. let are = parts.are in (cc, (cc, (parts.more, cc))))
-    (dec_both (dec_text word (codes "alldifferent")) (dec_both (dec_text mark (codes "(")) (dec_scope_end rest)))
-dec_distinct_texts _ = no (λ parts. let are = parts.are in cc)
+abbrev IsVariable : List (List ℕ) → Type 0
+IsVariable texts = After (codes "var") (Begins (λ name. After (codes "in") (λ more. IsWord name × ((set : List Values) × SetThen more set [])))) texts
 
--- texts that say that variables differ
-record SaysDistinct (texts : List (List ℕ)) : Type 0 where
-  parts : DistinctTexts texts
-  words : All IsWord (parts.name ∷ parts.more)
+abbrev IsDistinct : List (List ℕ) → Type 0
+IsDistinct texts = After (codes "alldifferent") (After (codes "(") (Begins (λ name. Closes (λ names. All IsWord (name ∷ names))))) texts
 
--- the same names, where others are at hand
-same_names : {texts : List (List ℕ)} (parts others : DistinctTexts texts) → others.name ∷ others.more ≡ parts.name ∷ parts.more
-same_names parts others =
-    let are = parts.are in
-    let theirs = others.are in
-    let ends : scope_end others.more ≡ scope_end parts.more = cc in
-    let rest = scope_end_one others.more parts.more ends in
-    cc
+abbrev IsTotal : List (List ℕ) → Type 0
+IsTotal texts = After (codes "sum") (After (codes "(") (Finds TermsThen (λ terms bounds. (least : ℤ) × (most : ℤ) × BoundsThen bounds least most []))) texts
 
--- whether texts say that variables differ
-dec_distinct : (texts : List (List ℕ)) → Dec (SaysDistinct texts)
-dec_distinct texts = by (dec_distinct_texts texts)
-  where
-    by : Dec (DistinctTexts texts) → Dec (SaysDistinct texts)
-    by (yes parts) = map_dec
-        (λ words. record { parts = parts; words = words })
-        (λ others. subst (All IsWord) (same_names parts others.parts) others.words)
-        (dec_all IsWord dec_word (parts.name ∷ parts.more))
-    by (no none) = no (λ says. none says.parts)
+abbrev IsObjective : List (List ℕ) → Type 0
+IsObjective texts = After (codes "minimize") (After (codes "(") (λ more. (terms : List Term) × TermsThen more terms [])) texts
+
+dec_variable : (texts : List (List ℕ)) → Dec (IsVariable texts)
+dec_variable = dec_after (codes "var") _ (dec_begins _ (λ name. dec_after (codes "in") _ (λ more. dec_both (dec_word name) (dec_whole_set more))))
+
+dec_distinct : (texts : List (List ℕ)) → Dec (IsDistinct texts)
+dec_distinct = dec_after (codes "alldifferent") _ (dec_after (codes "(") _ (dec_begins _ (λ name. dec_closes _ (λ names. dec_all IsWord dec_word (name ∷ names)))))
+
+dec_total : (texts : List (List ℕ)) → Dec (IsTotal texts)
+dec_total = dec_after (codes "sum") _ (dec_after (codes "(") _ (dec_terms _ (λ terms. dec_whole_bounds)))
+
+dec_objective : (texts : List (List ℕ)) → Dec (IsObjective texts)
+dec_objective = dec_after (codes "minimize") _ (dec_after (codes "(") _ dec_whole_terms)
+
+module _ {texts : List (List ℕ)} where
+  says_some : IsHeader texts ⊎ (IsVariable texts ⊎ (IsDistinct texts ⊎ (IsTotal texts ⊎ IsObjective texts))) → (s : Statement) × Says texts s
+  says_some (inl are) = (Header, says_header are)
+  says_some (inr (inl (after, is, (name, rest, parts, (more, in_, (word, (set, found))))))) =
+      (Variable name set, says_variable (is ∙ ap (λ r. codes "var" ∷ r) (parts ∙ ap (λ r. name ∷ r) in_)) word found)
+  says_some (inr (inr (inl (after, is, (between, opens, (name, rest, parts, (names, ends, words))))))) =
+      (Distinct (name ∷ names), says_distinct (is ∙ ap (λ r. codes "alldifferent" ∷ r) (opens ∙ ap (λ r. codes "(" ∷ r) (parts ∙ ap (λ r. name ∷ r) ends))) words)
+  says_some (inr (inr (inr (inl (after, is, (more, opens, (terms, bounds, found, (least, most, between)))))))) =
+      (Total terms least most, says_total (is ∙ ap (λ r. codes "sum" ∷ r) opens) found between)
+  says_some (inr (inr (inr (inr (after, is, (more, opens, (terms, found))))))) =
+      (Objective terms, says_objective (is ∙ ap (λ r. codes "minimize" ∷ r) opens) found)
+
+  some_says : {s : Statement} → Says texts s → IsHeader texts ⊎ (IsVariable texts ⊎ (IsDistinct texts ⊎ (IsTotal texts ⊎ IsObjective texts)))
+  some_says (says_header are) = inl are
+  some_says (says_variable {more = more} {name = name} {set = set} are word found) =
+      inr (inl (name ∷ codes "in" ∷ more, are, (name, codes "in" ∷ more, refl, (more, refl, (word, (set, found))))))
+  some_says (says_distinct {name = name} {more = names} are words) =
+      inr (inr (inl (codes "(" ∷ name ∷ scope_end names, are, (name ∷ scope_end names, refl, (name, scope_end names, refl, (names, refl, words))))))
+  some_says (says_total {more = more} {bounds = bounds} {terms = terms} {least = least} {most = most} are found between) =
+      inr (inr (inr (inl (codes "(" ∷ more, are, (more, refl, (terms, bounds, found, (least, most, between)))))))
+  some_says (says_objective {more = more} {terms = terms} are found) =
+      inr (inr (inr (inr (codes "(" ∷ more, are, (more, refl, (terms, found))))))
 
 -- what texts say
 pub dec_says : (texts : List (List ℕ)) → Dec ((s : Statement) × Says texts s)
-dec_says texts = by (dec_texts texts (codes "hkm" ∷ codes "1" ∷ [])) (dec_variable texts) (dec_distinct texts)
-  where
-    none : ((texts ≡ codes "hkm" ∷ codes "1" ∷ []) → ⊥) → (SaysVariable texts → ⊥) → (SaysDistinct texts → ⊥) → (s : Statement) → Says texts s → ⊥
-    none h v d s (says_header are) = h are
-    none h v d s (says_variable {name = name} {from = from} {to = to} {first = first} {last = last} are word number number') =
-        v (record { parts = record { name = name; from = from; to = to; are = are }; word = word; first = (first, number); last = (last, number') })
-    none h v d s (says_distinct {name = name} {more = more} are words) = d (record { parts = record { name = name; more = more; are = are }; words = words })
-
-    by : Dec (texts ≡ codes "hkm" ∷ codes "1" ∷ []) → Dec (SaysVariable texts) → Dec (SaysDistinct texts) → Dec ((s : Statement) × Says texts s)
-    by (yes are) v d = yes (Header, says_header are)
-    by (no h) (yes v) d = yes (Variable v.parts.name v.first.0 v.last.0, says_variable v.parts.are v.word v.first.1 v.last.1)
-    by (no h) (no v) (yes d) = yes (Distinct (d.parts.name ∷ d.parts.more), says_distinct d.parts.are d.words)
-    by (no h) (no v) (no d) = no (λ some. none h v d some.0 some.1)
+dec_says texts = map_dec says_some (λ some. some_says some.1)
+    (dec_either (dec_texts texts (codes "hkm" ∷ codes "1" ∷ [])) (dec_either (dec_variable texts) (dec_either (dec_distinct texts) (dec_either (dec_total texts) (dec_objective texts)))))

@@ -2,15 +2,17 @@
 use Rattle.std.proofs.Common.{◌≡◌, ℕ, ◌+◌, ◌<◌, ◌≤◌, List, [], ◌∷◌, ◌++◌, length, map, Option, None, Some, refl, sym, ap, subst, ◌∙◌, arith, length-append}
 use Rattle.std.specs.Prelude.{ℤ, All, IfSome}
 use Rattle.std.proofs.lemmas.List.{length-map}
-use Rattle.std.proofs.lemmas.List.Elements.{All-nil, All-cons, All-push, All-weaker}
+use Rattle.std.proofs.lemmas.List.Elements.{All-nil, All-cons, All-head, All-push, All-weaker}
 use Rattle.std.proofs.lemmas.List.Quantifiers.{position-Some}
 use Rattle.hk_model.specs.declared.problem.Constraint.{Constraint}
 use Rattle.hk_model.specs.declared.problem.Constraint.TheVariants.{AllDifferent, Sum}
 use Rattle.hk_model.specs.declared.linear.Linear.{Linear}
-use Rattle.hk_model.specs.declared.limits.TheConstants.{VARIABLES, NAME_BYTES, CONSTRAINTS}
-use Rattle.hk_model.specs.Problems.{PlainProblem, IsScope, IsLinear, IsConstraint, IsDomain, IsValid}
-use Rattle.hk_model.specs.Statements.{Statement, Says, says_distinct, place_of, IsRange, AddsVariable, AreNamesOf, AddsConstraint, empty_problem, Declares, declares_header, declares_variable, declares_distinct}
+use Rattle.hk_model.specs.declared.limits.TheConstants.{VARIABLES, NAME_BYTES, CONSTRAINTS, COEFFICIENT}
 use Rattle.hk_model.specs.Models.{IsGoodLine, good_empty, good_statement}
+use Rattle.hk_model.specs.Phrases.{Values, Term, TermsThen, last_term, more_term}
+use Rattle.hk_model.specs.Problems.{PlainProblem, IsScope, IsWithin, IsLinear, IsConstraint, IsDomain, IsValid}
+use Rattle.hk_model.specs.Statements.{Statement, Says, says_distinct, says_total, says_objective, place_of, IsSetOf, AddsVariable, AreNamesOf, AddsConstraint, AddsObjective, term_names, term_coefs, empty_problem, Declares, declares_header, declares_variable, declares_distinct, declares_total, declares_objective}
+use Rattle.hk_model.proofs.Elements.{any_first}
 
 -- what is declared so far is valid
 abbrev pub IsValidSoFar : Option PlainProblem → Type 0
@@ -51,21 +53,22 @@ objective_more : (m n : ℕ) → m ≤ n → (objective : Option Linear) → IfS
 objective_more m n more None is = tt
 objective_more m n more (Some linear) is = linear_more m n more linear.scope linear.coefs is
 
--- a range from its first value on is a domain
-range_domain : (first last set : ℕ) → first ≤ last → IsRange first last set → IsDomain set
-range_domain first last set ordered range = record {
-  small = range.small;
-  least = first;
-  some = (range.values first).1 (omega arith, ordered);
+-- a set of items of which none is turned is a domain
+items_domain : (set : List Values) (domain : ℕ) → 0 < length set → All (λ values. values.first ≤ values.last) set → IsSetOf set domain → IsDomain domain
+items_domain [] domain some ordered is = absurd (omega (arith, some))
+items_domain (values ∷ more) domain some ordered is = record {
+  small = is.small;
+  least = values.first;
+  some = (is.values values.first).1 (any_first _ values more (omega arith, All-head (λ item. item.first ≤ item.last) values more ordered));
 }
 
 -- a new variable keeps a problem valid
-variable_valid : {name : List ℕ} {first last : ℕ} {before after : PlainProblem} → AddsVariable name first last before after → IsValid before → IsValid after
-variable_valid {name = name} {first = first} {last = last} {before = before} adds valid = subst IsValid (sym adds.added) (record {
+variable_valid : {name : List ℕ} {set : List Values} {before after : PlainProblem} → AddsVariable name set before after → IsValid before → IsValid after
+variable_valid {name = name} {set = set} {before = before} adds valid = subst IsValid (sym adds.added) (record {
   named = length-append before.names (name ∷ []) ∙ ap (λ n. n + 1) valid.named ∙ sym (length-append before.domains (adds.domain ∷ []));
   variables = subst (λ n. n ≤ VARIABLES) (sym longer) (omega (arith, adds.room));
   names = All-push (λ text. length text ≤ NAME_BYTES) before.names name valid.names adds.short;
-  domains = All-push IsDomain before.domains adds.domain valid.domains (range_domain first last adds.domain adds.ordered adds.range);
+  domains = All-push IsDomain before.domains adds.domain valid.domains (items_domain set adds.domain adds.some adds.ordered adds.is_set);
   few = valid.few;
   constraints = All-weaker (IsConstraint (length before.names)) (IsConstraint (length (before.names ++ name ∷ [])))
       (constraint_more (length before.names) (length (before.names ++ name ∷ [])) (omega (arith, longer))) before.constraints valid.constraints;
@@ -84,33 +87,64 @@ places_below all (name ∷ names) (v ∷ scope) same =
     let rest : map (place_of all) names ≡ map Some scope = cc in
     All-cons (λ u. u < length all) v scope (position-Some _ all v [] place).0 (places_below all names scope rest)
 
--- a new constraint on variables with these names keeps a problem valid
-constraint_valid : {names : List (List ℕ)} {scope : List ℕ} {before after : PlainProblem} → 0 < length names → AreNamesOf names before scope → AddsConstraint (AllDifferent scope) before after → IsValid before → IsValid after
-constraint_valid {names = names} {scope = scope} {before = before} some named adds valid = subst IsValid (sym adds.added) (record {
+module _ {names : List (List ℕ)} {before : PlainProblem} {scope : List ℕ} (named : AreNamesOf names before scope) where
+  -- a scope has a variable for each of its names
+  as_many : length names ≡ length scope
+  as_many = sym (length-map names (place_of before.names)) ∙ ap length named.declared ∙ length-map scope Some
+
+  -- the variables of names are a scope
+  named_scope : 0 < length names → IsScope (length before.names) scope
+  named_scope some = record {
+    some = subst (λ n. 0 < n) as_many some;
+    rising = named.rising;
+    declared = places_below before.names names scope named.declared;
+  }
+
+-- the variables of terms, with their coefficients, are a sum
+named_linear : (terms : List Term) {before : PlainProblem} {scope : List ℕ} → 0 < length terms → AreNamesOf (term_names terms) before scope
+    → All (IsWithin COEFFICIENT) (term_coefs terms) → IsLinear (length before.names) scope (term_coefs terms)
+named_linear terms some named small = record {
+  over = named_scope named (subst (λ n. 0 < n) (sym (length-map terms (λ term. term.name))) some);
+  one_each = length-map terms (λ term. term.coef) ∙ sym (length-map terms (λ term. term.name)) ∙ as_many named;
+  small = small;
+}
+
+-- a new constraint on variables keeps a problem valid
+constraint_valid : {constraint : Constraint} {before after : PlainProblem} → IsConstraint (length before.names) constraint → AddsConstraint constraint before after → IsValid before → IsValid after
+constraint_valid {constraint = constraint} {before = before} is adds valid = subst IsValid (sym adds.added) (record {
   named = valid.named;
   variables = valid.variables;
   names = valid.names;
   domains = valid.domains;
-  few = subst (λ n. n ≤ CONSTRAINTS) (sym (length-append before.constraints (AllDifferent scope ∷ []))) (omega (arith, adds.room));
-  constraints = All-push (IsConstraint (length before.names)) before.constraints (AllDifferent scope) valid.constraints is_scope;
+  few = subst (λ n. n ≤ CONSTRAINTS) (sym (length-append before.constraints (constraint ∷ []))) (omega (arith, adds.room));
+  constraints = All-push (IsConstraint (length before.names)) before.constraints constraint valid.constraints is;
   objective = valid.objective;
 })
-  where
-    as_many : length names ≡ length scope
-    as_many = sym (length-map names (place_of before.names)) ∙ ap length named.declared ∙ length-map scope Some
 
-    is_scope : IsScope (length before.names) scope
-    is_scope = record {
-      some = subst (λ n. 0 < n) as_many some;
-      rising = named.rising;
-      declared = places_below before.names names scope named.declared;
-    }
+-- an objective on variables keeps a problem valid
+objective_valid : {linear : Linear} {before after : PlainProblem} → IsLinear (length before.names) linear.scope linear.coefs → AddsObjective linear before after → IsValid before → IsValid after
+objective_valid is adds valid = subst IsValid (sym adds.added) (record {
+  named = valid.named;
+  variables = valid.variables;
+  names = valid.names;
+  domains = valid.domains;
+  few = valid.few;
+  constraints = valid.constraints;
+  objective = is;
+})
+
+-- terms are some
+terms_some : {texts rest : List (List ℕ)} {terms : List Term} → TermsThen texts terms rest → 0 < length terms
+terms_some (last_term signed word) = omega arith
+terms_some (more_term signed word more) = omega arith
 
 -- a statement that a line says keeps what is declared valid
 statement_valid : {texts : List (List ℕ)} {s : Statement} {before after : Option PlainProblem} → Says texts s → Declares before s after → IsValidSoFar before → IsValidSoFar after
 statement_valid says declares_header valid = empty_valid
 statement_valid says (declares_variable adds) valid = variable_valid adds valid
-statement_valid (says_distinct x words) (declares_distinct named adds) valid = constraint_valid (omega arith) named adds valid
+statement_valid (says_distinct x words) (declares_distinct named adds) valid = constraint_valid (named_scope named (omega arith)) adds valid
+statement_valid (says_total {terms = terms} x all bounds) (declares_total named small least most adds) valid = constraint_valid (named_linear terms (terms_some all) named small, least, most) adds valid
+statement_valid (says_objective {terms = terms} x all) (declares_objective named small adds) valid = objective_valid (named_linear terms (terms_some all) named small) adds valid
 
 -- a good line keeps what is declared valid
 pub good_line_valid : {before after : Option PlainProblem} {line : List ℕ} → IsGoodLine before line after → IsValidSoFar before → IsValidSoFar after

@@ -1,7 +1,11 @@
 pub mod Declarations
 pub mod Faults
+pub mod LineFaults
 pub mod Models
+pub mod Phrases
+pub mod Pieces
 pub mod Problems
+pub mod Refused
 pub mod Shapes
 pub mod Solutions
 pub mod Statements

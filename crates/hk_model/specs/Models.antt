@@ -1,14 +1,9 @@
--- Which problem the bytes of a model spell, and the one refusal where they spell none.
-use Rattle.std.specs.Prelude.{◌≡◌, ℕ, ◌+◌, ◌↔◌, List, [], ◌∷◌, ◌++◌, length, Option, None, Some, Contains, codes}
+-- Which problem the bytes of a model spell, and which of its lines is the first bad one.
+use Rattle.std.specs.Prelude.{◌≡◌, ℕ, ◌+◌, List, [], ◌∷◌, ◌++◌, length, Option, None, Some, Contains, codes}
 use Rattle.hk_text.specs.declared.tokenizer.Token.{Token}
-use Rattle.hk_text.specs.Lexemes.{IsWord}
 use Rattle.hk_text.specs.Lines.{lines}
 use Rattle.hk_text.specs.Texts.{texts_of}
 use Rattle.hk_text.specs.Tokens.{AreTokensOf}
-use Rattle.hk_model.specs.declared.refusal.RefusalKind.{RefusalKind}
-use Rattle.hk_model.specs.declared.refusal.RefusalKind.TheVariants.{Later, Bad}
-use Rattle.hk_model.specs.declared.refusal.ModelError.{ModelError}
-use Rattle.hk_model.specs.declared.refusal.ModelError.TheVariants.{Refused, Memory}
 use Rattle.hk_model.specs.Problems.{PlainProblem}
 use Rattle.hk_model.specs.Statements.{Statement, Says, Declares}
 
@@ -40,21 +35,16 @@ IsBadLine before line = (after : Option PlainProblem) → IsGoodLine before line
 
 -- the words that begin statements which aren't read yet
 abbrev pub later_words : List (List ℕ)
-later_words = codes "among" ∷ codes "sequence" ∷ codes "gcc" ∷ codes "sum" ∷ codes "minimize" ∷ codes "group" ∷ codes "spec" ∷ codes "post" ∷ []
+later_words = codes "among" ∷ codes "sequence" ∷ codes "gcc" ∷ codes "group" ∷ codes "spec" ∷ codes "post" ∷ []
 
--- tokens that begin a statement which isn't read yet: its word, or `var NAME in {`
-pub data BeginsLater : List (List ℕ) → Type 0 where
-  by_word : {word : List ℕ} {more : List (List ℕ)} → Contains later_words word → BeginsLater (word ∷ more)
-  by_braces : {texts : List (List ℕ)} {name : List ℕ} {more : List (List ℕ)}
-      → texts ≡ codes "var" ∷ name ∷ codes "in" ∷ codes "{" ∷ more → IsWord name → BeginsLater texts
-
--- a line after the header, all of its bytes in tokens, that begins a statement which isn't read yet
+-- a line after the header, all of its bytes in tokens, that begins with the word of a statement which isn't read yet
 pub record IsLaterLine (before : Option PlainProblem) (line : List ℕ) : Type 0 where
   pub problem : PlainProblem
   pub started : before ≡ Some problem
-  pub texts : List (List ℕ)
-  pub has : HasTexts line texts
-  pub begins : BeginsLater texts
+  pub word : List ℕ
+  pub more : List (List ℕ)
+  pub has : HasTexts line (word ∷ more)
+  pub later : Contains later_words word
 
 -- the first bad line of a model, its number, counted from 1, and what was declared before it
 pub record IsFirstBadLine (bytes : List ℕ) (number : ℕ) (line : List ℕ) (before : Option PlainProblem) : Type 0 where
@@ -64,14 +54,3 @@ pub record IsFirstBadLine (bytes : List ℕ) (number : ℕ) (line : List ℕ) (b
   pub counted : number ≡ length front + 1
   pub good : AreGoodLines None front before
   pub bad : IsBadLine before line
-
--- the refusal of a model: its first bad line, as Later where that begins a statement which isn't read yet, and else as Bad; where all lines are good and none is the header, the line after the last, as Bad
-pub data IsRefusal : List ℕ → ℕ → RefusalKind → Type 0 where
-  refused_line : {bytes line : List ℕ} {number : ℕ} {before : Option PlainProblem} {kind : RefusalKind}
-      → IsFirstBadLine bytes number line before → ((kind ≡ Later) ↔ IsLaterLine before line) → IsRefusal bytes number kind
-  no_header : {bytes : List ℕ} → AreGoodLines None (lines bytes) None → IsRefusal bytes (length (lines bytes) + 1) Bad
-
--- what an answer other than a problem says of the bytes of a model: the refusal is theirs; want of memory says nothing
-abbrev pub IsErrorOf : List ℕ → ModelError → Type 0
-IsErrorOf bytes (Refused refusal) = IsRefusal bytes refusal.line refusal.kind
-IsErrorOf bytes Memory = Unit {0}

@@ -1,32 +1,48 @@
-ghost use Rattle.std.specs.Prelude.{◌≡◌, map, None, Some, IsSome, OnOk, IfErr};
-ghost use Rattle.hk_model.specs.Declarations.{AddsRange, AddsDistinct};
-ghost use Rattle.hk_model.specs.Faults.{IsFaultFor};
-ghost use Rattle.hk_model.specs.Shapes.{DeclaresShape};
-ghost use Rattle.hk_model.specs.Statements.{empty_problem};
+//! What a line declares, after the lines before it.
+
+ghost use Rattle.std.specs.Prelude.{◌≡◌, All, ◌↔◌, false, map, None, Some, IsTrue, OnOk, IfErr};
+ghost use Rattle.hk_model.specs.declared.limits.TheConstants.{LIM};
+ghost use Rattle.hk_model.specs.Declarations.{values_of, terms_of, statement_of, AddsDistinct, AddsTotal, AddsLeast, FitsVariable, FitsTotal};
+ghost use Rattle.hk_model.specs.Faults.{IsStatementFault};
+ghost use Rattle.hk_model.specs.LineFaults.{IsLimitFault};
+ghost use Rattle.hk_model.specs.Problems.{IsWithin};
+ghost use Rattle.hk_model.specs.Statements.{Header, Variable, Distinct, Total, Objective, Declares, AddsVariable, empty_problem};
 
 use crate::draft::Draft;
 use crate::faults::LineFault;
-use crate::limits::{CONSTRAINTS, NAME_BYTES, VARIABLES};
+use crate::limits::{COEFFICIENT, CONSTRAINTS, LIM, NAME_BYTES, VALUES, VARIABLES};
+use crate::linear::Linear;
+use crate::phrases::{Term, Values};
 use crate::problem::Constraint;
-use crate::ranges::values_between;
-use crate::scopes::{is_rising, places_of};
-use crate::shapes::{NamedRange, Shape};
+use crate::refusal::RefusalKind;
+use crate::scopes::{coefs_of, is_rising, places_of, term_places};
+use crate::sets::set_of_values;
+use crate::shapes::Shape;
 use std::alloc::Global;
 
-/// Declares what a line of this shape says, after what was declared before it.
+/// Declares what a line of this shape says, after what was declared before it: None before the
+/// header.
 pub fn declare(alloc: Global, draft: &mut Option<Draft>, shape: Shape<'_>) -> Result<(), LineFault>
-    ensures ok { OnOk result (DeclaresShape draft.old shape.entry draft.new) }
-    ensures err { IfErr result (IsFaultFor (DeclaresShape draft.old shape.entry)) }
+    ensures ok { OnOk result (Declares draft.old (statement_of shape.entry) draft.new) }
+    ensures err { IfErr result (IsStatementFault draft.old (statement_of shape.entry)) }
 {
     match shape {
         Shape::Start => start(alloc, draft),
-        Shape::Range(range) => match draft {
-            None => Err(LineFault::Bad),
-            Some(draft) => declare_variable(alloc, draft, range),
+        Shape::Variable { name, set } => match draft {
+            None => Err(LineFault::Bad(RefusalKind::Syntax)),
+            Some(draft) => declare_variable(alloc, draft, name, set.as_slice()),
         },
-        Shape::Scope { names } => match draft {
-            None => Err(LineFault::Bad),
+        Shape::Distinct { names } => match draft {
+            None => Err(LineFault::Bad(RefusalKind::Syntax)),
             Some(draft) => declare_distinct(alloc, draft, names.as_slice()),
+        },
+        Shape::Total { terms, least, most } => match draft {
+            None => Err(LineFault::Bad(RefusalKind::Syntax)),
+            Some(draft) => declare_total(alloc, draft, terms.as_slice(), least, most),
+        },
+        Shape::Objective { terms } => match draft {
+            None => Err(LineFault::Bad(RefusalKind::Syntax)),
+            Some(draft) => declare_objective(alloc, draft, terms.as_slice()),
         },
     }
 }
@@ -34,10 +50,10 @@ pub fn declare(alloc: Global, draft: &mut Option<Draft>, shape: Shape<'_>) -> Re
 /// Begins the draft, where it isn't begun.
 fn start(alloc: Global, draft: &mut Option<Draft>) -> Result<(), LineFault>
     ensures ok { OnOk result ((draft.old ≡ None) × (draft.new ≡ Some empty_problem)) }
-    ensures err { IfErr result (λ fault. (fault ≡ LineFault.Bad) × IsSome draft.old) }
+    ensures err { IfErr result (IsStatementFault draft.old Header) }
 {
     if draft.is_some() {
-        return Err(LineFault::Bad);
+        return Err(LineFault::Bad(RefusalKind::Syntax));
     }
     *draft = Some(Draft::new(alloc));
     Ok(())
@@ -47,46 +63,136 @@ fn start(alloc: Global, draft: &mut Option<Draft>) -> Result<(), LineFault>
 fn declare_variable(
     alloc: Global,
     draft: &mut Draft,
-    range: NamedRange<'_>,
+    name: &[u8],
+    set: &[Values],
 ) -> Result<(), LineFault>
-    ensures ok { OnOk result (AddsRange
-        range.entry.name.now range.entry.first.now range.entry.last.now draft.old draft.new) }
-    ensures err { IfErr result (IsFaultFor (AddsRange
-        range.entry.name.now range.entry.first.now range.entry.last.now draft.old)) }
+    ensures ok { OnOk result (AddsVariable name.now (values_of set.now) draft.old draft.new) }
+    ensures err { IfErr result (IsStatementFault (Some draft.old) (Variable name.now (values_of set.now))) }
 {
-    if draft.place_of(range.name).is_some() {
-        return Err(LineFault::Bad);
+    if draft.place_of(name).is_some() {
+        return Err(LineFault::Bad(RefusalKind::Name));
     }
-    if range.name.len() > NAME_BYTES {
-        return Err(LineFault::Bad);
+    if variable_passes_limit(draft, name, set) {
+        return Err(LineFault::Bad(RefusalKind::Limit));
+    }
+    draft
+        .add_variable(alloc, name, set_of_values(set))
+        .map_err(|_| LineFault::NoMemory)?;
+    Ok(())
+}
+
+/// Whether a new variable passes a limit, one of its ranges is turned, or its set has no value.
+fn variable_passes_limit(draft: &Draft, name: &[u8], set: &[Values]) -> bool
+    ensures passes { IsTrue result → IsLimitFault draft.now (Variable name.now (values_of set.now)) }
+    ensures fits { result ≡ false → FitsVariable name.now set.now draft.now }
+{
+    if name.len() > NAME_BYTES {
+        return true;
     }
     if draft.variable_count() >= VARIABLES {
-        return Err(LineFault::Bad);
+        return true;
     }
-    let Some(values) = values_between(range.first, range.last) else {
-        return Err(LineFault::Bad);
-    };
-    draft
-        .add_variable(alloc, range.name, values)
-        .map_err(|_| LineFault::Memory)?;
-    Ok(())
+    if set.is_empty() {
+        return true;
+    }
+    set.iter().any(|values| values.last >= u64::from(VALUES) || values.last < values.first)
 }
 
 /// Declares that the variables of these names differ.
 fn declare_distinct(alloc: Global, draft: &mut Draft, names: &[&[u8]]) -> Result<(), LineFault>
     ensures ok { OnOk result (AddsDistinct (map (λ name. name.now) names.now) draft.old draft.new) }
-    ensures err { IfErr result (IsFaultFor
-        (AddsDistinct (map (λ name. name.now) names.now) draft.old)) }
+    ensures err { IfErr result (IsStatementFault (Some draft.old) (Distinct (map (λ name. name.now) names.now))) }
 {
     let scope = places_of(alloc, draft, names)?;
     if draft.constraint_count() >= CONSTRAINTS {
-        return Err(LineFault::Bad);
+        return Err(LineFault::Bad(RefusalKind::Limit));
     }
     if !is_rising(scope.as_slice()) {
-        return Err(LineFault::Bad);
+        return Err(LineFault::Bad(RefusalKind::Scope));
     }
     draft
         .add_constraint(Constraint::AllDifferent { scope })
-        .map_err(|_| LineFault::Memory)?;
+        .map_err(|_| LineFault::NoMemory)?;
     Ok(())
+}
+
+/// Declares that the sum of the terms lies from `least` to `most`.
+fn declare_total(
+    alloc: Global,
+    draft: &mut Draft,
+    terms: &[Term<'_>],
+    least: i64,
+    most: i64,
+) -> Result<(), LineFault>
+    ensures ok { OnOk result (AddsTotal terms.now least most draft.old draft.new) }
+    ensures err { IfErr result (IsStatementFault (Some draft.old) (Total (terms_of terms.now) least most)) }
+{
+    let scope = term_places(alloc, draft, terms)?;
+    if total_passes_limit(draft, terms, least, most) {
+        return Err(LineFault::Bad(RefusalKind::Limit));
+    }
+    if !is_rising(scope.as_slice()) {
+        return Err(LineFault::Bad(RefusalKind::Scope));
+    }
+    let coefs = coefs_of(alloc, terms).map_err(|_| LineFault::NoMemory)?;
+    draft
+        .add_constraint(Constraint::Sum {
+            scope,
+            coefs,
+            least,
+            most,
+        })
+        .map_err(|_| LineFault::NoMemory)?;
+    Ok(())
+}
+
+/// Whether a new sum passes a limit.
+fn total_passes_limit(draft: &Draft, terms: &[Term<'_>], least: i64, most: i64) -> bool
+    ensures passes { IsTrue result → IsLimitFault draft.now (Total (terms_of terms.now) least most) }
+    ensures fits { result ≡ false → FitsTotal terms.now least most draft.now }
+{
+    if draft.constraint_count() >= CONSTRAINTS {
+        return true;
+    }
+    if !is_within_limit(least) {
+        return true;
+    }
+    if !is_within_limit(most) {
+        return true;
+    }
+    !are_coefficients(terms)
+}
+
+/// Whether a bound is within the limit.
+fn is_within_limit(number: i64) -> bool
+    ensures { IsTrue result ↔ IsWithin LIM number }
+{
+    -LIM <= number && number <= LIM
+}
+
+/// Declares that the sum of the terms is to be least.
+fn declare_objective(alloc: Global, draft: &mut Draft, terms: &[Term<'_>]) -> Result<(), LineFault>
+    ensures ok { OnOk result (AddsLeast terms.now draft.old draft.new) }
+    ensures err { IfErr result (IsStatementFault (Some draft.old) (Objective (terms_of terms.now))) }
+{
+    let scope = term_places(alloc, draft, terms)?;
+    if draft.has_objective() {
+        return Err(LineFault::Bad(RefusalKind::Name));
+    }
+    if !are_coefficients(terms) {
+        return Err(LineFault::Bad(RefusalKind::Limit));
+    }
+    if !is_rising(scope.as_slice()) {
+        return Err(LineFault::Bad(RefusalKind::Scope));
+    }
+    let coefs = coefs_of(alloc, terms).map_err(|_| LineFault::NoMemory)?;
+    draft.set_objective(Linear { scope, coefs });
+    Ok(())
+}
+
+/// Whether each coefficient is within the limit.
+fn are_coefficients(terms: &[Term<'_>]) -> bool
+    ensures { IsTrue result ↔ All (λ term. IsWithin COEFFICIENT term.coef) terms.now }
+{
+    terms.iter().all(|term| -COEFFICIENT <= term.coef && term.coef <= COEFFICIENT)
 }

@@ -1,8 +1,9 @@
-ghost use Rattle.std.specs.Prelude.{◌≡◌, ◌<◌, ◌∷◌, ◌++◌, [], length, None, OnOk, IfOk};
+ghost use Rattle.std.specs.Prelude.{◌≡◌, ◌<◌, ◌↔◌, ◌∷◌, ◌++◌, [], length, None, Some, IsSome, IsTrue, OnOk, IfOk};
 ghost use Rattle.hk_model.specs.Problems.{IsValid};
 ghost use Rattle.hk_model.specs.Statements.{place_of, empty_problem};
 
 use crate::limits::VARIABLES;
+use crate::linear::Linear;
 use crate::problem::{Constraint, Constraints, Names, Problem};
 use hk_base::{Bytes, List};
 use indexmap::IndexMap;
@@ -15,10 +16,11 @@ use std::marker::Model;
 pub struct Draft {
     variables: IndexMap<Vec<u8>, u128>,
     constraints: Constraints,
+    objective: Option<Linear>,
 }
 
 impl Model for Draft {
-    ghost use Rattle.std.specs.Prelude.{◌≤◌, map, None};
+    ghost use Rattle.std.specs.Prelude.{◌≤◌, map};
     ghost use Rattle.indexmap.specs.IndexMap.{keys, values, index_map_len};
     ghost use Rattle.hk_model.specs.declared.limits.TheConstants.{VARIABLES};
     ghost use Rattle.hk_model.specs.Problems.{PlainProblem};
@@ -29,20 +31,21 @@ impl Model for Draft {
       names = map (λ name. name.items) (keys d.variables);
       domains = values d.variables;
       constraints = d.constraints;
-      objective = None;
+      objective = d.objective;
     } };
 
     ghost invariant = { λ d. index_map_len d.variables ≤ VARIABLES };
 }
 
 impl Draft {
-    /// A draft without variables and constraints.
+    /// A draft without variables, constraints and objective.
     pub fn new(alloc: Global) -> Draft
         ensures { result ≡ empty_problem }
     {
         Draft {
             variables: IndexMap::new(alloc),
             constraints: List::new(alloc),
+            objective: None,
         }
     }
 
@@ -98,6 +101,20 @@ impl Draft {
         Ok(())
     }
 
+    /// Whether the objective is declared.
+    pub fn has_objective(&self) -> bool
+        ensures { IsTrue result ↔ IsSome self.now.objective }
+    {
+        self.objective.is_some()
+    }
+
+    /// Declares the objective.
+    pub fn set_objective(&mut self, objective: Linear)
+        ensures { self.new ≡ record self.old { objective = Some objective } }
+    {
+        self.objective = Some(objective);
+    }
+
     /// The problem that is declared, where it is valid.
     pub fn finish(self, alloc: Global) -> Result<Problem, AllocError>
         requires { IsValid self }
@@ -106,6 +123,7 @@ impl Draft {
         let Draft {
             variables,
             constraints,
+            objective,
         } = self;
         let mut names: Names = List::new(alloc);
         let mut domains = List::new(alloc);
@@ -113,6 +131,6 @@ impl Draft {
             names.push(Bytes::from_vec(name))?;
             domains.push(domain)?;
         }
-        Ok(Problem::new(names, domains, constraints, None))
+        Ok(Problem::new(names, domains, constraints, objective))
     }
 }

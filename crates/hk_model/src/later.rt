@@ -1,22 +1,13 @@
 ghost use Rattle.std.specs.Prelude.{◌↔◌, map, All, Contains, IsTrue};
-ghost use Rattle.hk_text.specs.Texts.{text_of, texts_of};
-ghost use Rattle.hk_model.specs.Models.{BeginsLater, later_words};
-ghost use Rattle.hk_model.specs.Shapes.{IsTokenIn, BeginsBraces};
+ghost use Rattle.hk_text.specs.Texts.{texts_of};
+ghost use Rattle.hk_model.specs.Faults.{BeginsLater};
+ghost use Rattle.hk_model.specs.Models.{later_words};
+ghost use Rattle.hk_model.specs.Shapes.{IsTokenIn};
 
-use crate::shapes::is_word;
-use hk_text::{Token, has_text, text_of};
+use hk_text::{Token, text_of};
 
 /// The words that begin statements which aren't read yet.
-const LATER_WORDS: [&[u8]; 8] = [
-    b"among",
-    b"sequence",
-    b"gcc",
-    b"sum",
-    b"minimize",
-    b"group",
-    b"spec",
-    b"post",
-];
+const LATER_WORDS: [&[u8]; 6] = [b"among", b"sequence", b"gcc", b"group", b"spec", b"post"];
 
 /// Whether the tokens begin a statement that isn't read yet.
 pub fn begins_later(line: &[u8], tokens: &[Token]) -> bool
@@ -25,7 +16,7 @@ pub fn begins_later(line: &[u8], tokens: &[Token]) -> bool
 {
     match tokens.split_first() {
         None => false,
-        Some((word, _)) => is_later_word(text_of(line, *word)) || begins_braces(line, tokens),
+        Some((word, _)) => is_later_word(text_of(line, *word)),
     }
 }
 
@@ -41,20 +32,4 @@ fn is_among(text: &[u8], texts: &[&[u8]]) -> bool
     ensures { IsTrue result ↔ Contains (map (λ other. other.now) texts.now) text.now }
 {
     texts.iter().any(|other| *other == text)
-}
-
-/// Whether the tokens begin with `var NAME in {`.
-fn begins_braces(line: &[u8], tokens: &[Token]) -> bool
-    requires { All (IsTokenIn line.now) tokens.now }
-    ensures { IsTrue result ↔ BeginsBraces (texts_of line.now tokens.now) }
-{
-    match tokens {
-        [word, name, within, brace, ..] => {
-            has_text(line, *word, b"var")
-                && is_word(line, *name)
-                && has_text(line, *within, b"in")
-                && has_text(line, *brace, b"{")
-        }
-        _ => false,
-    }
 }

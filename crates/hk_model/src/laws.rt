@@ -1,7 +1,8 @@
 ghost use Rattle.std.specs.Prelude.{◌≡◌, ◌⊎◌, ℕ, List};
 ghost use Rattle.hk_model.specs.declared.refusal.RefusalKind.{RefusalKind};
 ghost use Rattle.hk_model.specs.Problems.{PlainProblem, IsValid};
-ghost use Rattle.hk_model.specs.Models.{Spells, IsRefusal};
+ghost use Rattle.hk_model.specs.Models.{Spells};
+ghost use Rattle.hk_model.specs.Refused.{IsRefusal};
 
 /// The law that makes the answer about a model the only one: its bytes spell a problem or have a
 /// refusal, and not both, and there is one problem and one refusal at most.

@@ -17,11 +17,12 @@ mod later;
 mod laws;
 pub mod limits;
 mod linear;
+mod phrases;
 mod problem;
-mod ranges;
 mod reading;
 mod refusal;
 mod scopes;
+mod sets;
 mod shapes;
 #[cfg(test)]
 mod tests;

@@ -1,23 +1,24 @@
 ghost use Rattle.std.specs.Prelude.{◌↔◌, ◌≤◌, length, All, IsSome, IsTrue, OnOk, IfOk, IfErr};
 ghost use Rattle.hk_text.specs.Texts.{texts_of};
 ghost use Rattle.hk_text.specs.Tokens.{AreTokensOf};
-ghost use Rattle.hk_model.specs.Models.{BeginsLater, IsGoodLine, Spells, IsErrorOf};
-ghost use Rattle.hk_model.specs.Faults.{IsLineFault};
+ghost use Rattle.hk_model.specs.Faults.{BeginsLater, IsLineFault};
+ghost use Rattle.hk_model.specs.Models.{IsGoodLine, Spells};
+ghost use Rattle.hk_model.specs.Refused.{IsErrorOf};
 ghost use Rattle.hk_model.specs.Shapes.{IsTokenIn};
 
 use crate::declaring::declare;
 use crate::draft::Draft;
-use crate::faults::LineFault;
+use crate::faults::{LineFault, error_at};
 use crate::later::begins_later;
 use crate::problem::Problem;
-use crate::refusal::ModelError;
+use crate::refusal::{ModelError, RefusalKind};
 use crate::shapes::shape_of;
-use hk_text::{Token, split_line, tokens};
+use hk_text::{TextFault, Token, split_line, tokens};
 use std::alloc::Global;
 
-/// The problem that the bytes of a model spell. Else the refusal tells the first bad line: as Later
-/// where that begins a statement which isn't read yet, and as Bad otherwise. Where all lines are
-/// good and none is the header, the line after the last is Bad.
+/// The problem that the bytes of a model spell. Else the refusal tells the first bad line and the
+/// first kind of its faults, in the order of `RefusalKind`. Where all lines are good and none is the
+/// header, the line after the last is Unfinished.
 pub fn read_model(alloc: Global, bytes: &[u8]) -> Result<Problem, ModelError>
     requires { length bytes.now ≤ 1048576 }
     ensures spells { IfOk result (Spells bytes.now) }
@@ -30,13 +31,13 @@ pub fn read_model(alloc: Global, bytes: &[u8]) -> Result<Problem, ModelError>
         let (line, after) = split_line(rest);
         match read_line(alloc, &mut draft, line) {
             Ok(()) => {}
-            Err(fault) => return Err(fault.error_at(number)),
+            Err(fault) => return Err(error_at(number, fault)),
         }
         rest = after;
         number += 1;
     }
     match draft {
-        None => Err(LineFault::Bad.error_at(number)),
+        None => Err(error_at(number, LineFault::Bad(RefusalKind::Unfinished))),
         Some(draft) => draft.finish(alloc).map_err(|_| ModelError::Memory),
     }
 }
@@ -49,7 +50,9 @@ fn read_line(alloc: Global, draft: &mut Option<Draft>, line: &[u8]) -> Result<()
 {
     match tokens(alloc, line) {
         Ok(found) => read_tokens(alloc, draft, line, found.as_slice()),
-        Err(fault) => Err(LineFault::of_text(fault)),
+        Err(TextFault::NotAscii(_)) => Err(LineFault::Bad(RefusalKind::Text)),
+        Err(TextFault::BadByte(_)) => Err(LineFault::Bad(RefusalKind::Text)),
+        Err(TextFault::Memory) => Err(LineFault::NoMemory),
     }
 }
 
@@ -69,12 +72,12 @@ fn read_tokens(
         return Ok(());
     }
     if is_later(draft, line, tokens) {
-        return Err(LineFault::Later);
+        return Err(LineFault::Bad(RefusalKind::Later));
     }
     match shape_of(alloc, line, tokens) {
         Ok(Some(shape)) => declare(alloc, draft, shape),
-        Ok(None) => Err(LineFault::Bad),
-        Err(_) => Err(LineFault::Memory),
+        Ok(None) => Err(LineFault::Bad(RefusalKind::Syntax)),
+        Err(_) => Err(LineFault::NoMemory),
     }
 }
 

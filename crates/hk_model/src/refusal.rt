@@ -1,12 +1,23 @@
 use thiserror::Error;
 
-/// Why a line of a model is refused.
+/// Why a line of a model is refused. Where a line has faults of several kinds, the first of these
+/// is told.
 #[derive(Clone, Copy, Debug, PartialEq, Eq)]
 pub enum RefusalKind {
+    /// A byte is in no token and no comment.
+    Text,
     /// The line begins a statement that isn't read yet.
     Later,
-    /// The line is no statement, or none that may stand there.
-    Bad,
+    /// The tokens are none of a statement that may stand there.
+    Syntax,
+    /// A name is declared twice, or not where it is used, or the line is a second `minimize`.
+    Name,
+    /// A quantity passes its limit, a set has no value, or a range is turned.
+    Limit,
+    /// The variables of a scope don't stand in the order of their declaration.
+    Scope,
+    /// There is no header.
+    Unfinished,
 }
 
 /// The refusal of a model: its first bad line, counted from 1, and why it is bad. What isn't finished

@@ -1,29 +1,38 @@
-ghost use Rattle.std.specs.Prelude.{◌≡◌, ◌∷◌, ◌↔◌, [], List as Seq, ℕ, All, IsTrue, IfOk, IfSome, IsNone, map, codes};
-ghost use Rattle.hk_text.specs.Lexemes.{IsWord};
-ghost use Rattle.hk_text.specs.Texts.{text_of, texts_of};
-ghost use Rattle.hk_model.specs.Shapes.{IsTokenIn, IsScopeOf, IsDistinctOf, AreOfShape, SayNothing, range_texts};
+//! The shape of a line: which statement its tokens say.
 
+ghost use Rattle.std.specs.Prelude.{◌≡◌, ◌∷◌, ◌↔◌, [], All, IsTrue, IfOk, IfSome, IsNone, codes};
+ghost use Rattle.hk_text.specs.Texts.{texts_of};
+ghost use Rattle.hk_model.specs.Shapes.{IsTokenIn, IsShapeOf, SayNothing};
+
+use crate::phrases::{Term, Values, after_text, bounds_of, names_of, set_of, terms_of, word_of};
 use hk_base::List;
-use hk_text::{Token, TokenKind, has_text, text_of};
+use hk_text::{Token, has_text};
 use std::alloc::{AllocError, Global};
 
-/// The declaration of a variable, as texts.
-#[derive(Clone, Copy)]
-pub struct NamedRange<'a> {
-    pub name: &'a [u8],
-    pub first: &'a [u8],
-    pub last: &'a [u8],
-}
-
-/// What the tokens of a line look like, with the texts in the open places of the statement.
+/// What the tokens of a line say, with each number above all limits as one such number.
 #[derive(Drop)]
 pub enum Shape<'a> {
     /// `hkm 1`
     Start,
-    /// `var NAME in FIRST..LAST`
-    Range(NamedRange<'a>),
+    /// `var NAME in SET`
+    Variable {
+        name: &'a [u8],
+        set: List<Values>,
+    },
     /// `alldifferent (NAME, NAME)`
-    Scope { names: List<&'a [u8]> },
+    Distinct {
+        names: List<&'a [u8]>,
+    },
+    /// `sum (TERM, TERM) LEAST..MOST`
+    Total {
+        terms: List<Term<'a>>,
+        least: i64,
+        most: i64,
+    },
+    /// `minimize (TERM, TERM)`
+    Objective {
+        terms: List<Term<'a>>,
+    },
 }
 
 /// The shape of a line's tokens, where they have one.
@@ -33,29 +42,25 @@ pub fn shape_of<'a>(
     tokens: &[Token],
 ) -> Result<Option<Shape<'a>>, AllocError>
     requires { All (IsTokenIn line.now) tokens.now }
-    ensures shape { IfOk result (λ found.
-        IfSome found (AreOfShape (texts_of line.now tokens.now))) }
+    ensures shape { IfOk result (λ found. IfSome found (IsShapeOf (texts_of line.now tokens.now))) }
     ensures none { IfOk result (λ found. IsNone found → SayNothing (texts_of line.now tokens.now)) }
 {
     if is_start(line, tokens) {
         return Ok(Some(Shape::Start));
     }
-    if let Some(range) = range_of(line, tokens) {
-        return Ok(Some(Shape::Range(range)));
+    if let Some(rest) = after_text(line, tokens, b"var") {
+        return variable_of(alloc, line, rest);
     }
-    match scope_of(alloc, line, tokens) {
-        Ok(Some(names)) => Ok(Some(Shape::Scope { names })),
-        Ok(None) => Ok(None),
-        Err(refused) => Err(refused),
+    if let Some(rest) = after_text(line, tokens, b"alldifferent") {
+        return scope_of(alloc, line, rest);
     }
-}
-
-/// Whether the token is a word.
-pub fn is_word(line: &[u8], token: Token) -> bool
-    requires { IsTokenIn line.now token }
-    ensures { IsTrue result ↔ IsWord (text_of line.now token) }
-{
-    token.kind == TokenKind::Word
+    if let Some(rest) = after_text(line, tokens, b"sum") {
+        return total_of(alloc, line, rest);
+    }
+    if let Some(rest) = after_text(line, tokens, b"minimize") {
+        return objective_of(alloc, line, rest);
+    }
+    Ok(None)
 }
 
 /// Whether the tokens are `hkm 1`.
@@ -69,95 +74,93 @@ fn is_start(line: &[u8], tokens: &[Token]) -> bool
     }
 }
 
-/// The name and the range of `var NAME in FIRST..LAST`, where the tokens are that.
-fn range_of<'a>(line: &'a [u8], tokens: &[Token]) -> Option<NamedRange<'a>>
+/// The shape of `var` and these tokens.
+fn variable_of<'a>(
+    alloc: Global,
+    line: &'a [u8],
+    tokens: &[Token],
+) -> Result<Option<Shape<'a>>, AllocError>
     requires { All (IsTokenIn line.now) tokens.now }
-    ensures texts { IfSome result (λ range.
-        texts_of line.now tokens.now ≡ range_texts range.name.now range.first.now range.last.now) }
-    ensures word { IfSome result (λ range. IsWord range.name.now) }
-    ensures none { IsNone result → (name from to : Seq ℕ) →
-        texts_of line.now tokens.now ≡ range_texts name from to → IsWord name → ⊥ }
+    ensures shape { IfOk result (λ found. IfSome found (IsShapeOf (codes "var" ∷ texts_of line.now tokens.now))) }
+    ensures none { IfOk result (λ found. IsNone found → SayNothing (codes "var" ∷ texts_of line.now tokens.now)) }
 {
-    let [word, name, within, first, between, last] = tokens else {
-        return None;
+    let Some((name, after)) = word_of(line, tokens) else {
+        return Ok(None);
     };
-    if !has_text(line, *word, b"var") {
-        return None;
+    let Some(after) = after_text(line, after, b"in") else {
+        return Ok(None);
+    };
+    let Some((set, rest)) = set_of(alloc, line, after)? else {
+        return Ok(None);
+    };
+    if !rest.is_empty() {
+        return Ok(None);
     }
-    if !is_word(line, *name) {
-        return None;
-    }
-    if !has_text(line, *within, b"in") {
-        return None;
-    }
-    if !has_text(line, *between, b"..") {
-        return None;
-    }
-    Some(NamedRange {
-        name: text_of(line, *name),
-        first: text_of(line, *first),
-        last: text_of(line, *last),
-    })
+    Ok(Some(Shape::Variable { name, set }))
 }
 
-/// The names of `alldifferent (NAME, NAME)`, where the tokens are that.
+/// The shape of `alldifferent` and these tokens.
 fn scope_of<'a>(
     alloc: Global,
     line: &'a [u8],
     tokens: &[Token],
-) -> Result<Option<List<&'a [u8]>>, AllocError>
+) -> Result<Option<Shape<'a>>, AllocError>
     requires { All (IsTokenIn line.now) tokens.now }
-    ensures some { IfOk result (λ found. IfSome found (λ names.
-        IsDistinctOf (texts_of line.now tokens.now) (map (λ name. name.now) names))) }
-    ensures none { IfOk result (λ found. IsNone found → (names : Seq (Seq ℕ)) →
-        IsDistinctOf (texts_of line.now tokens.now) names → ⊥) }
+    ensures shape { IfOk result (λ found. IfSome found (IsShapeOf (codes "alldifferent" ∷ texts_of line.now tokens.now))) }
+    ensures none { IfOk result (λ found. IsNone found → SayNothing (codes "alldifferent" ∷ texts_of line.now tokens.now)) }
 {
-    let [word, open, ..] = tokens else {
+    let Some(open) = after_text(line, tokens, b"(") else {
         return Ok(None);
     };
-    if !has_text(line, *word, b"alldifferent") {
+    let Some((names, rest)) = names_of(alloc, line, open)? else {
+        return Ok(None);
+    };
+    if !rest.is_empty() {
         return Ok(None);
     }
-    if !has_text(line, *open, b"(") {
-        return Ok(None);
-    }
-    let (_, rest) = tokens.split_at(2);
-    names_of(alloc, line, rest)
+    Ok(Some(Shape::Distinct { names }))
 }
 
-/// The names of a scope, where the tokens are that scope without its opening parenthesis.
-fn names_of<'a>(
+/// The shape of `sum` and these tokens.
+fn total_of<'a>(
     alloc: Global,
     line: &'a [u8],
     tokens: &[Token],
-) -> Result<Option<List<&'a [u8]>>, AllocError>
+) -> Result<Option<Shape<'a>>, AllocError>
     requires { All (IsTokenIn line.now) tokens.now }
-    ensures some { IfOk result (λ found. IfSome found (λ names.
-        IsScopeOf (texts_of line.now tokens.now) (map (λ name. name.now) names))) }
-    ensures none { IfOk result (λ found. IsNone found → (names : Seq (Seq ℕ)) →
-        IsScopeOf (texts_of line.now tokens.now) names → ⊥) }
+    ensures shape { IfOk result (λ found. IfSome found (IsShapeOf (codes "sum" ∷ texts_of line.now tokens.now))) }
+    ensures none { IfOk result (λ found. IsNone found → SayNothing (codes "sum" ∷ texts_of line.now tokens.now)) }
 {
-    let mut names = List::new(alloc);
-    let mut rest = tokens;
-    'names: loop {
-        let [name, mark, ..] = rest else {
-            return Ok(None);
-        };
-        if !is_word(line, *name) {
-            return Ok(None);
-        }
-        names.push(text_of(line, *name))?;
-        let (_, after) = rest.split_at(2);
-        if has_text(line, *mark, b",") {
-            rest = after;
-            continue;
-        }
-        if !has_text(line, *mark, b")") {
-            return Ok(None);
-        }
-        if !after.is_empty() {
-            return Ok(None);
-        }
-        return Ok(Some(names));
+    let Some(open) = after_text(line, tokens, b"(") else {
+        return Ok(None);
+    };
+    let Some((terms, rest)) = terms_of(alloc, line, open)? else {
+        return Ok(None);
+    };
+    let Some((least, most)) = bounds_of(line, rest) else {
+        return Ok(None);
+    };
+    Ok(Some(Shape::Total { terms, least, most }))
+}
+
+/// The shape of `minimize` and these tokens.
+fn objective_of<'a>(
+    alloc: Global,
+    line: &'a [u8],
+    tokens: &[Token],
+) -> Result<Option<Shape<'a>>, AllocError>
+    requires { All (IsTokenIn line.now) tokens.now }
+    ensures shape { IfOk result (λ found. IfSome found (IsShapeOf (codes "minimize" ∷ texts_of line.now tokens.now))) }
+    ensures none { IfOk result (λ found. IsNone found → SayNothing (codes "minimize" ∷ texts_of line.now tokens.now)) }
+{
+    let Some(open) = after_text(line, tokens, b"(") else {
+        return Ok(None);
+    };
+    let Some((terms, rest)) = terms_of(alloc, line, open)? else {
+        return Ok(None);
+    };
+    if !rest.is_empty() {
+        return Ok(None);
     }
+    Ok(Some(Shape::Objective { terms }))
 }

@@ -1,38 +1,42 @@
-use Rattle.std.proofs.Common.{◌≡◌, List, ℕ, map, Bor, sym, subst}
-use Rattle.std.proofs.lemmas.Result.{on_ok_weaker, IfErr-weaker}
-use Rattle.hk_model.specs.Declarations.{AddsRange, AddsDistinct}
-use Rattle.hk_model.specs.Faults.{IsFaultFor}
-use Rattle.hk_model.specs.Shapes.{DeclaresShape}
-use Rattle.hk_model.proofs.ShapeEffects.{DeclaresShape-at, fault_at, start_declares, range_declares, range_fault, scope_declares, scope_fault}
-use Rattle.hk_model.proofs.Membership.{now_of}
+use Rattle.std.proofs.Common.{◌≡◌, List, ℕ, map, Bor, OnOk, sym, subst, rules}
+use Rattle.std.proofs.lemmas.Result.{on_ok_weaker}
+use Rattle.hk_model.specs.declared.phrases.Values.{Values}
+use Rattle.hk_model.specs.declared.phrases.Term.{Term}
+use Rattle.hk_model.specs.declared.shapes.Shape.TheVariants.{Start, Variable, Distinct, Total, Objective}
+use Rattle.hk_model.specs.Declarations.{values_of, AddsDistinct, AddsTotal, AddsLeast}
+use Rattle.hk_model.specs.Statements.{Header, AddsVariable, Declares, declares_header, declares_variable}
+use Rattle.hk_model.proofs.Fitting.{distinct_declares, total_declares, objective_declares, declares_at}
 use Rattle.hk_model.proofs.declaring.declare.Goals as goal
 
 pub returns-in-Start-clause-ok : goal.returns-in-Start-clause-ok
 returns-in-Start-clause-ok c = on_ok_weaker c.start.result (λ both.
-    subst (DeclaresShape c.args.draft.now c.args.shape) (sym both.1) (DeclaresShape-at both.0 c.in-Start.is start_declares)) c.start.ensures.ok
+    declares_at Start both.0 c.in-Start.is (subst (Declares _ Header) (sym both.1) declares_header)) c.start.ensures.ok
 
-pub returns-in-Range-clause-ok : goal.returns-in-Range-clause-ok
-returns-in-Range-clause-ok c = on_ok_weaker c.declare_variable.result (λ added.
-    DeclaresShape-at c.in-Some.is c.in-Range.is (range_declares c.in-Range.range c.in-Some.draft c.declare_variable.new.draft added)) c.declare_variable.ensures.ok
+pub returns-in-Variable-clause-ok : goal.returns-in-Variable-clause-ok
+returns-in-Variable-clause-ok c =
+    let slice : c.as_slice.result.now ≡ c.in-Variable.set = c.as_slice.ensures in
+    on_ok_weaker c.declare_variable.result (λ adds.
+    declares_at (Variable c.in-Variable.name c.in-Variable.set) c.in-Some.is c.in-Variable.is (declares_variable
+    (subst (λ (set : List Values). AddsVariable c.in-Variable.name.now (values_of set) c.in-Some.draft c.declare_variable.new.draft) slice adds))) c.declare_variable.ensures.ok
 
-pub returns-in-Range-clause-err : goal.returns-in-Range-clause-err
-returns-in-Range-clause-err c = IfErr-weaker c.declare_variable.result
-    (IsFaultFor (AddsRange c.in-Range.range.name.now c.in-Range.range.first.now c.in-Range.range.last.now c.in-Some.draft))
-    (IsFaultFor (DeclaresShape c.args.draft.now c.args.shape))
-    (λ fault is. fault_at fault c.in-Some.is c.in-Range.is (range_fault c.in-Range.range c.in-Some.draft fault is)) c.declare_variable.ensures.err
+pub returns-in-Distinct-clause-ok : goal.returns-in-Distinct-clause-ok
+returns-in-Distinct-clause-ok c =
+    let slice : c.as_slice-in-Some-draft.result.now ≡ c.in-Distinct.names = c.as_slice-in-Some-draft.ensures in
+    on_ok_weaker c.declare_distinct.result (λ adds.
+    declares_at (Distinct c.in-Distinct.names) c.in-Some-draft.is c.in-Distinct.is (distinct_declares
+    (subst (λ (names : List (Bor (List ℕ))). AddsDistinct (map (λ name. name.now) names) c.in-Some-draft.draft c.declare_distinct.new.draft) slice adds))) c.declare_distinct.ensures.ok
+
+pub returns-in-Total-clause-ok : goal.returns-in-Total-clause-ok
+returns-in-Total-clause-ok c =
+    let slice : c.as_slice-in-Some-draft-2.result.now ≡ c.in-Total.terms = c.as_slice-in-Some-draft-2.ensures in
+    let ok : OnOk c.declare_total.result (AddsTotal c.as_slice-in-Some-draft-2.result.now c.in-Total.least c.in-Total.most c.in-Some-draft-2.draft c.declare_total.new.draft) = search (rules) in
+    on_ok_weaker c.declare_total.result (λ adds.
+    declares_at (Total c.in-Total.terms c.in-Total.least c.in-Total.most) c.in-Some-draft-2.is c.in-Total.is (total_declares c.in-Total.terms
+    (subst (λ (terms : List Term). AddsTotal terms c.in-Total.least c.in-Total.most c.in-Some-draft-2.draft c.declare_total.new.draft) slice adds))) ok
 
 pub returns-clause-ok : goal.returns-clause-ok
 returns-clause-ok c =
-    let slice : c.as_slice.result.now ≡ c.in-Scope.names = c.as_slice.ensures in
-    on_ok_weaker c.declare_distinct.result (λ added.
-    DeclaresShape-at c.in-Some-draft.is c.in-Scope.is (scope_declares c.in-Scope.names c.in-Some-draft.draft c.declare_distinct.new.draft
-    (subst (λ (names : List (Bor (List ℕ))). AddsDistinct (map now_of names) c.in-Some-draft.draft c.declare_distinct.new.draft) slice added))) c.declare_distinct.ensures.ok
-
-pub returns-clause-err : goal.returns-clause-err
-returns-clause-err c =
-    let slice : c.as_slice.result.now ≡ c.in-Scope.names = c.as_slice.ensures in
-    IfErr-weaker c.declare_distinct.result
-    (IsFaultFor (AddsDistinct (map now_of c.as_slice.result.now) c.in-Some-draft.draft))
-    (IsFaultFor (DeclaresShape c.args.draft.now c.args.shape))
-    (λ fault is. fault_at fault c.in-Some-draft.is c.in-Scope.is (scope_fault c.in-Scope.names c.in-Some-draft.draft fault
-    (subst (λ (names : List (Bor (List ℕ))). IsFaultFor (AddsDistinct (map now_of names) c.in-Some-draft.draft) fault) slice is))) c.declare_distinct.ensures.err
+    let slice : c.as_slice-in-Some-draft-3.result.now ≡ c.in-Objective.terms = c.as_slice-in-Some-draft-3.ensures in
+    on_ok_weaker c.declare_objective.result (λ adds.
+    declares_at (Objective c.in-Objective.terms) c.in-Some-draft-3.is c.in-Objective.is (objective_declares c.in-Objective.terms
+    (subst (λ (terms : List Term). AddsLeast terms c.in-Some-draft-3.draft c.declare_objective.new.draft) slice adds))) c.declare_objective.ensures.ok

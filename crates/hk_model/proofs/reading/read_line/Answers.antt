@@ -1,6 +1,8 @@
 use Rattle.std.proofs.Common.{◌≡◌, sym, subst}
 use Rattle.std.specs.List.{All}
+use Rattle.hk_model.specs.LineFaults.{fault_text}
 use Rattle.hk_model.specs.Shapes.{IsTokenIn}
+use Rattle.hk_model.proofs.FaultRanks.{first_text, fault_bad}
 use Rattle.hk_model.proofs.reading.read_line.Goals as goal
 
 pub read_tokens-requires-clause-within : goal.read_tokens-requires-clause-within
@@ -12,5 +14,12 @@ read_tokens-requires-clause-within c =
       lexeme = found.lexemes index any within;
     })
 
-pub returns-in-Err-clause-err : goal.returns-in-Err-clause-err
-returns-in-Err-clause-err c = c.of_text.ensures c.args.draft.now c.args.line.now c.in-Err.ensures.err
+pub returns-in-Err-NotAscii-clause-err : goal.returns-in-Err-NotAscii-clause-err
+returns-in-Err-NotAscii-clause-err c =
+    let fault = rw c.in-Err-NotAscii.field-0-is at c.in-Err-NotAscii.ensures.err in
+    (fault_bad (fault_text fault.1), first_text fault.1)
+
+pub returns-in-Err-BadByte-clause-err : goal.returns-in-Err-BadByte-clause-err
+returns-in-Err-BadByte-clause-err c =
+    let fault = rw c.in-Err-BadByte.field-0-is at c.in-Err-BadByte.ensures.err in
+    (fault_bad (fault_text fault.1), first_text fault.1)

@@ -1,7 +1,7 @@
 use Rattle.std.proofs.Common.{◌≡◌, [], length, refl, sym, ◌∙◌, subst, arith}
 use Rattle.hk_model.specs.Models.{no_line}
+use Rattle.hk_model.proofs.FaultRanks.{zero_from_test}
 use Rattle.hk_model.proofs.Reaching.{Reached, reached_more, refused_at, unfinished, all_valid}
-use Rattle.hk_model.proofs.Refusals.{zero_from_test}
 use Rattle.hk_model.proofs.reading.read_model.Goals as goal
 
 pub lines-init : goal.lines-init

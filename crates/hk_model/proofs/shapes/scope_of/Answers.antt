@@ -1,18 +1,23 @@
-use Rattle.std.proofs.Common.{List, ℕ, Option, IsNone, IfOk, Bor, subst}
-use Rattle.std.proofs.lemmas.Result.{IfOk-weaker}
+use Rattle.std.proofs.Common.{[], map, sym, rules}
 use Rattle.hk_text.specs.Texts.{texts_of}
-use Rattle.hk_model.specs.Shapes.{IsScopeOf, IsDistinctOf}
-use Rattle.hk_model.proofs.Heads.{rest_texts}
+use Rattle.hk_model.specs.Pieces.{NamesThen}
+use Rattle.hk_model.specs.Shapes.{BeginsWithout}
+use Rattle.hk_model.proofs.Capping.{texts_over, texts_go_on}
+use Rattle.hk_model.proofs.Membership.{now_of}
+use Rattle.hk_model.proofs.Shaping.{distinct_said, no_distinct, no_more_distinct}
 use Rattle.hk_model.proofs.shapes.scope_of.Goals as goal
 
-pub returns-clause-none : goal.returns-clause-none
-returns-clause-none c =
-    let line = c.args.line.now in
-    let rest = c.split_at.result.1.now in
-    let none : IfOk c.names_of.result (λ (found : Option (List (Bor (List ℕ)))). IsNone found → (names : List (List ℕ)) → IsScopeOf (texts_of line rest) names → ⊥) = c.names_of.ensures.none in
-    IfOk-weaker c.names_of.result
-    (λ (found : Option (List (Bor (List ℕ)))). IsNone found → (names : List (List ℕ)) → IsScopeOf (texts_of line rest) names → ⊥)
-    (λ (found : Option (List (Bor (List ℕ)))). IsNone found → (names : List (List ℕ)) → IsDistinctOf (texts_of line c.args.tokens.now) names → ⊥)
-    (λ found no_names is_none names (texts, parts, scope).
-    no_names is_none names (subst (λ ts. IsScopeOf ts names) (rest_texts line c.args.tokens.now rest _ _ texts c.in-len2-up.len_at_least c.split_at.ensures.back parts) scope))
-    none
+pub returns-in_default-2-clause-none : goal.returns-in_default-2-clause-none
+returns-in_default-2-clause-none c =
+    let none : BeginsWithout NamesThen (texts_of c.args.line.now c.in-Some.open.now) = search rules in
+    λ _. no_distinct c.in-Some.ensures.some (λ names. none names [])
+
+pub returns-then-not-is_empty-clause-none : goal.returns-then-not-is_empty-clause-none
+returns-then-not-is_empty-clause-none c =
+    let names : NamesThen (texts_of c.args.line.now c.in-Some.open.now) (map now_of c.in-Some-2.names) (texts_of c.args.line.now c.in-Some-2.rest.now) = search rules in
+    λ _. no_more_distinct c.in-Some.ensures.some names (texts_go_on c.args.line.now c.in-Some-2.rest.now (sym c.if-not-is_empty.ensures))
+
+pub returns-clause-shape : goal.returns-clause-shape
+returns-clause-shape c =
+    let names : NamesThen (texts_of c.args.line.now c.in-Some.open.now) (map now_of c.in-Some-2.names) (texts_of c.args.line.now c.in-Some-2.rest.now) = search rules in
+    distinct_said c.in-Some.ensures.some names (texts_over c.args.line.now c.in-Some-2.rest.now (sym c.if-not-is_empty.ensures))

@@ -7,4 +7,5 @@ abbrev pub invariant-loop-name : goal.invariant-loop-name
 invariant-loop-name l = record {
   names : l.names ++ names_of (keys_of l.name-iterator) ≡ l.fn.self.names;
   domains : l.domains ++ values_of l.name-iterator ≡ l.fn.self.domains;
+  objective : l.objective ≡ l.fn.self.objective;
 }

@@ -1,0 +1,134 @@
+-- The faults of a statement are decided.
+use Rattle.std.proofs.Common.{◌≡◌, ℕ, ◌<◌, ◌≤◌, ℤ, ◌⊎◌, inl, inr, List, [], ◌∷◌, length, map, Option, None, Some, IsSome, is_some, refl, subst, sym, ◌∙◌}
+use Rattle.std.specs.Prelude.{Any}
+use Rattle.std.specs.List.Sorted.{IsStrictlyIncreasing}
+use Rattle.std.proofs.Math.Decide.{map_dec, dec_le, dec_lt}
+use Rattle.hk_model.specs.declared.limits.TheConstants.{VARIABLES, VALUES, NAME_BYTES, CONSTRAINTS, COEFFICIENT, LIM}
+use Rattle.hk_model.specs.LineFaults.{IsNameFault, declared_twice, not_declared, second_objective, IsLimitFault, long_name, large_value, turned_range, no_value, many_variables, many_differ, many_totals, large_least, large_most, large_total_coef, large_coef, IsScopeFault, used_names}
+use Rattle.hk_model.specs.Phrases.{Values, Term}
+use Rattle.hk_model.specs.Problems.{PlainProblem, IsWithin}
+use Rattle.hk_model.specs.Statements.{Statement, Header, Variable, Distinct, Total, Objective, MayStand, place_of, term_names, term_coefs}
+use Rattle.hk_model.proofs.Decisions.{dec_either, dec_true, dec_not, dec_rising}
+use Rattle.hk_model.proofs.Effects.{dec_coefficient, dec_within_limit, scope_of, no_places_of}
+use Rattle.hk_model.proofs.Elements.{any_nil, dec_any}
+use Rattle.hk_model.proofs.Grammar.{same_places}
+
+-- that an option is none
+dec_none : {A : Type 0} (o : Option A) → Dec (o ≡ None)
+dec_none None = yes refl
+dec_none (Some x) = no (λ e. cc)
+
+-- whether one of the names is not declared
+dec_undeclared : (declared names : List (List ℕ)) → Dec (Any (λ name. place_of declared name ≡ None) names)
+dec_undeclared declared names = dec_any (λ name. place_of declared name ≡ None) (λ name. dec_none (place_of declared name)) names
+
+-- whether a coefficient is out of the limit
+dec_large_coef : (coefs : List ℤ) → Dec (Any (λ coef. IsWithin COEFFICIENT coef → ⊥) coefs)
+dec_large_coef coefs = dec_any (λ coef. IsWithin COEFFICIENT coef → ⊥) (λ coef. dec_not (dec_coefficient coef)) coefs
+
+-- whether a statement has a name fault
+pub dec_name_fault : (before : PlainProblem) (s : Statement) → Dec (IsNameFault before s)
+dec_name_fault before Header = no none
+  where
+    none : IsNameFault before Header → ⊥
+    none (not_declared some) = any_nil (λ name. place_of before.names name ≡ None) some
+dec_name_fault before (Variable name set) = map_dec declared_twice at (dec_true (is_some (place_of before.names name)))
+  where
+    at : IsNameFault before (Variable name set) → IsSome (place_of before.names name)
+    at (declared_twice twice) = twice
+    at (not_declared some) = absurd (any_nil (λ name. place_of before.names name ≡ None) some)
+dec_name_fault before (Distinct names) = map_dec not_declared at (dec_undeclared before.names names)
+  where
+    at : IsNameFault before (Distinct names) → Any (λ name. place_of before.names name ≡ None) names
+    at (not_declared some) = some
+dec_name_fault before (Total terms least most) = map_dec not_declared at (dec_undeclared before.names (term_names terms))
+  where
+    at : IsNameFault before (Total terms least most) → Any (λ name. place_of before.names name ≡ None) (term_names terms)
+    at (not_declared some) = some
+dec_name_fault before (Objective terms) = map_dec there back (dec_either (dec_undeclared before.names (term_names terms)) (dec_true (is_some before.objective)))
+  where
+    there : Any (λ name. place_of before.names name ≡ None) (term_names terms) ⊎ IsSome before.objective → IsNameFault before (Objective terms)
+    there (inl some) = not_declared some
+    there (inr second) = second_objective second
+
+    back : IsNameFault before (Objective terms) → Any (λ name. place_of before.names name ≡ None) (term_names terms) ⊎ IsSome before.objective
+    back (not_declared some) = inl some
+    back (second_objective second) = inr second
+
+-- whether a variable with a set that isn't empty has a limit fault
+dec_variable_limit : (before : PlainProblem) (name : List ℕ) (values : Values) (more : List Values) → Dec (IsLimitFault before (Variable name (values ∷ more)))
+dec_variable_limit before name values more = map_dec there back (dec_either
+    (dec_either (dec_lt NAME_BYTES (length name)) (dec_le VARIABLES (length before.names)))
+    (dec_either (dec_any (λ values. VALUES ≤ values.last) (λ values. dec_le VALUES values.last) set) (dec_any (λ values. values.last < values.first) (λ values. dec_lt values.last values.first) set)))
+  where
+    set : List Values
+    set = values ∷ more
+
+    there : ((NAME_BYTES < length name) ⊎ (VARIABLES ≤ length before.names)) ⊎ (Any (λ values. VALUES ≤ values.last) set ⊎ Any (λ values. values.last < values.first) set) → IsLimitFault before (Variable name set)
+    there (inl (inl long)) = long_name long
+    there (inl (inr many)) = many_variables many
+    there (inr (inl large)) = large_value large
+    there (inr (inr turned)) = turned_range turned
+
+    back : IsLimitFault before (Variable name set) → ((NAME_BYTES < length name) ⊎ (VARIABLES ≤ length before.names)) ⊎ (Any (λ values. VALUES ≤ values.last) set ⊎ Any (λ values. values.last < values.first) set)
+    back (long_name long) = inl (inl long)
+    back (many_variables many) = inl (inr many)
+    back (large_value large) = inr (inl large)
+    back (turned_range turned) = inr (inr turned)
+
+-- whether a sum has a limit fault
+dec_total_limit : (before : PlainProblem) (terms : List Term) (least most : ℤ) → Dec (IsLimitFault before (Total terms least most))
+dec_total_limit before terms least most = map_dec there back (dec_either
+    (dec_either (dec_le CONSTRAINTS (length before.constraints)) (dec_large_coef (term_coefs terms)))
+    (dec_either (dec_not (dec_within_limit least)) (dec_not (dec_within_limit most))))
+  where
+    there : ((CONSTRAINTS ≤ length before.constraints) ⊎ Any (λ coef. IsWithin COEFFICIENT coef → ⊥) (term_coefs terms)) ⊎ ((IsWithin LIM least → ⊥) ⊎ (IsWithin LIM most → ⊥)) → IsLimitFault before (Total terms least most)
+    there (inl (inl many)) = many_totals many
+    there (inl (inr large)) = large_total_coef large
+    there (inr (inl large)) = large_least large
+    there (inr (inr large)) = large_most large
+
+    back : IsLimitFault before (Total terms least most) → ((CONSTRAINTS ≤ length before.constraints) ⊎ Any (λ coef. IsWithin COEFFICIENT coef → ⊥) (term_coefs terms)) ⊎ ((IsWithin LIM least → ⊥) ⊎ (IsWithin LIM most → ⊥))
+    back (many_totals many) = inl (inl many)
+    back (large_total_coef large) = inl (inr large)
+    back (large_least large) = inr (inl large)
+    back (large_most large) = inr (inr large)
+
+-- whether a statement has a limit fault
+pub dec_limit_fault : (before : PlainProblem) (s : Statement) → Dec (IsLimitFault before s)
+dec_limit_fault before Header = no (λ fault. elim fault [ ])
+dec_limit_fault before (Variable name []) = yes no_value
+dec_limit_fault before (Variable name (values ∷ more)) = dec_variable_limit before name values more
+dec_limit_fault before (Distinct names) = map_dec many_differ at (dec_le CONSTRAINTS (length before.constraints))
+  where
+    at : IsLimitFault before (Distinct names) → CONSTRAINTS ≤ length before.constraints
+    at (many_differ many) = many
+dec_limit_fault before (Total terms least most) = dec_total_limit before terms least most
+dec_limit_fault before (Objective terms) = map_dec large_coef at (dec_large_coef (term_coefs terms))
+  where
+    at : IsLimitFault before (Objective terms) → Any (λ coef. IsWithin COEFFICIENT coef → ⊥) (term_coefs terms)
+    at (large_coef large) = large
+
+-- whether a statement has a scope fault
+pub dec_scope_fault : (before : PlainProblem) (s : Statement) → Dec (IsScopeFault before s)
+dec_scope_fault before s = by (scope_of before.names (used_names s))
+  where
+    falls : (scope : List ℕ) → map (place_of before.names) (used_names s) ≡ map Some scope → IsScopeFault before s → IsStrictlyIncreasing scope → ⊥
+    falls scope places fault rises = fault.falls (subst IsStrictlyIncreasing (same_places scope fault.scope (sym places ∙ fault.places)) rises)
+
+    by : Any (λ name. place_of before.names name ≡ None) (used_names s) ⊎ ((scope : List ℕ) × (map (place_of before.names) (used_names s) ≡ map Some scope)) → Dec (IsScopeFault before s)
+    by (inl none) = no (λ fault. no_places_of before.names (used_names s) none fault.scope fault.places)
+    by (inr (scope, places)) = map_dec (λ not_rising. record { scope = scope; places = places; falls = not_rising }) (λ fault. falls scope places fault) (dec_not (dec_rising scope))
+
+-- whether a statement may stand there
+pub dec_may_stand : (before : Option PlainProblem) (s : Statement) → Dec (MayStand before s)
+dec_may_stand None Header = yes tt
+dec_may_stand None (Variable name set) = no (λ never. never)
+dec_may_stand None (Distinct names) = no (λ never. never)
+dec_may_stand None (Total terms least most) = no (λ never. never)
+dec_may_stand None (Objective terms) = no (λ never. never)
+dec_may_stand (Some before) Header = no (λ never. never)
+dec_may_stand (Some before) (Variable name set) = yes tt
+dec_may_stand (Some before) (Distinct names) = yes tt
+dec_may_stand (Some before) (Total terms least most) = yes tt
+dec_may_stand (Some before) (Objective terms) = yes tt

@@ -1,0 +1,73 @@
+-- Why a line is bad: each kind of fault, by the line's tokens and what was declared before, and the order of the kinds.
+use Rattle.std.specs.Prelude.{◌≡◌, ◌≢◌, ℕ, ◌<◌, ◌≤◌, ℤ, List, [], length, map, Any, Option, None, Some, IsSome}
+use Rattle.std.specs.List.Sorted.{IsStrictlyIncreasing}
+use Rattle.hk_text.specs.Tokens.{IsBadByte}
+use Rattle.hk_model.specs.declared.limits.TheConstants.{VARIABLES, VALUES, NAME_BYTES, CONSTRAINTS, COEFFICIENT, LIM}
+use Rattle.hk_model.specs.declared.refusal.RefusalKind.{RefusalKind}
+use Rattle.hk_model.specs.declared.refusal.RefusalKind.TheVariants.{Text, Later, Syntax, Name, Limit, Scope, Unfinished}
+use Rattle.hk_model.specs.Models.{HasTexts, IsLaterLine}
+use Rattle.hk_model.specs.Phrases.{Values, Term}
+use Rattle.hk_model.specs.Problems.{PlainProblem, IsWithin}
+use Rattle.hk_model.specs.Statements.{Statement, Header, Variable, Distinct, Total, Objective, Says, MayStand, place_of, term_names, term_coefs}
+
+-- the names of variables that a statement uses
+abbrev pub used_names : Statement → List (List ℕ)
+used_names Header = []
+used_names (Variable name set) = []
+used_names (Distinct names) = names
+used_names (Total terms least most) = term_names terms
+used_names (Objective terms) = term_names terms
+
+-- a name is declared twice, or not where it is used; or there is an objective already
+pub data IsNameFault (before : PlainProblem) : Statement → Type 0 where
+  declared_twice : {name : List ℕ} {set : List Values} → IsSome (place_of before.names name) → IsNameFault before (Variable name set)
+  not_declared : {statement : Statement} → Any (λ name. place_of before.names name ≡ None) (used_names statement) → IsNameFault before statement
+  second_objective : {terms : List Term} → IsSome before.objective → IsNameFault before (Objective terms)
+
+-- a quantity passes its limit, a range is turned, or a set has no value
+pub data IsLimitFault (before : PlainProblem) : Statement → Type 0 where
+  long_name : {name : List ℕ} {set : List Values} → NAME_BYTES < length name → IsLimitFault before (Variable name set)
+  large_value : {name : List ℕ} {set : List Values} → Any (λ values. VALUES ≤ values.last) set → IsLimitFault before (Variable name set)
+  turned_range : {name : List ℕ} {set : List Values} → Any (λ values. values.last < values.first) set → IsLimitFault before (Variable name set)
+  no_value : {name : List ℕ} → IsLimitFault before (Variable name [])
+  many_variables : {name : List ℕ} {set : List Values} → VARIABLES ≤ length before.names → IsLimitFault before (Variable name set)
+  many_differ : {names : List (List ℕ)} → CONSTRAINTS ≤ length before.constraints → IsLimitFault before (Distinct names)
+  many_totals : {terms : List Term} {least most : ℤ} → CONSTRAINTS ≤ length before.constraints → IsLimitFault before (Total terms least most)
+  large_least : {terms : List Term} {least most : ℤ} → (IsWithin LIM least → ⊥) → IsLimitFault before (Total terms least most)
+  large_most : {terms : List Term} {least most : ℤ} → (IsWithin LIM most → ⊥) → IsLimitFault before (Total terms least most)
+  large_total_coef : {terms : List Term} {least most : ℤ} → Any (λ coef. IsWithin COEFFICIENT coef → ⊥) (term_coefs terms) → IsLimitFault before (Total terms least most)
+  large_coef : {terms : List Term} → Any (λ coef. IsWithin COEFFICIENT coef → ⊥) (term_coefs terms) → IsLimitFault before (Objective terms)
+
+-- the variables that a statement uses don't stand strictly in the order of their declaration
+pub record IsScopeFault (before : PlainProblem) (statement : Statement) : Type 0 where
+  pub scope : List ℕ
+  pub places : map (place_of before.names) (used_names statement) ≡ map Some scope
+  pub falls : IsStrictlyIncreasing scope → ⊥
+
+-- a line has a fault of a kind
+pub data IsFault (before : Option PlainProblem) (line : List ℕ) : RefusalKind → Type 0 where
+  fault_text : {column byte : ℕ} → IsBadByte line column byte → IsFault before line Text
+  fault_later : IsLaterLine before line → IsFault before line Later
+  fault_syntax : {texts : List (List ℕ)} → HasTexts line texts → texts ≢ []
+      → ((statement : Statement) → Says texts statement → MayStand before statement → ⊥) → IsFault before line Syntax
+  fault_name : {texts : List (List ℕ)} {statement : Statement} {problem : PlainProblem}
+      → HasTexts line texts → Says texts statement → before ≡ Some problem → IsNameFault problem statement → IsFault before line Name
+  fault_limit : {texts : List (List ℕ)} {statement : Statement} {problem : PlainProblem}
+      → HasTexts line texts → Says texts statement → before ≡ Some problem → IsLimitFault problem statement → IsFault before line Limit
+  fault_scope : {texts : List (List ℕ)} {statement : Statement} {problem : PlainProblem}
+      → HasTexts line texts → Says texts statement → before ≡ Some problem → IsScopeFault problem statement → IsFault before line Scope
+
+-- the place of a kind in the order of kinds
+abbrev pub rank : RefusalKind → ℕ
+rank Text = 0
+rank Later = 1
+rank Syntax = 2
+rank Name = 3
+rank Limit = 4
+rank Scope = 5
+rank Unfinished = 6
+
+-- the first kind, in the order of kinds, of which the line has a fault
+pub record IsFirstFault (before : Option PlainProblem) (line : List ℕ) (kind : RefusalKind) : Type 0 where
+  pub fault : IsFault before line kind
+  pub first : (other : RefusalKind) → IsFault before line other → rank kind ≤ rank other
