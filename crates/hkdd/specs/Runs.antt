@@ -4,12 +4,12 @@ use Rattle.hk_base.specs.declared.host.Slot.TheVariants.{Model, CertOut, Out}
 use Rattle.hk_base.specs.Hosts.{View, ReadFaulted, WriteFaulted}
 use Rattle.hk_base.specs.Lists.{IsFrontOf}
 use Rattle.hk_model.specs.declared.refusal.RefusalKind.{RefusalKind}
-use Rattle.hk_model.specs.declared.refusal.RefusalKind.TheVariants.{Later}
 use Rattle.hk_model.specs.Problems.{PlainProblem}
-use Rattle.hk_model.specs.Models.{Spells, IsRefusal}
+use Rattle.hk_model.specs.Models.{Spells}
+use Rattle.hk_model.specs.Refused.{IsRefusal}
 use Rattle.hk_search.specs.AnswerTexts.{IsAnswerText}
 use Rattle.hkdd.specs.declared.limits.TheConstants.{MODEL_BYTES}
-use Rattle.hkdd.specs.Texts.{usage_text, read_fault_text, refusal_text}
+use Rattle.hkdd.specs.Texts.{usage_text, read_fault_text, refusal_text, too_large_text}
 
 -- the words are `solve` and the name of a file
 abbrev pub IsSolve : List (List ℕ) → List ℕ → Type 0
@@ -38,7 +38,7 @@ pub data IsReply : List ℕ → ℕ → List ℕ → Type 0 where
       → length bytes ≤ MODEL_BYTES → Spells bytes problem → IsAnswerText problem text → IsReply bytes 0 text
   reply_refusal : {bytes : List ℕ} {line : ℕ} {kind : RefusalKind}
       → length bytes ≤ MODEL_BYTES → IsRefusal bytes line kind → IsReply bytes 3 (refusal_text line kind)
-  reply_too_long : {bytes : List ℕ} → MODEL_BYTES < length bytes → IsReply bytes 3 (refusal_text 0 Later)
+  reply_too_large : {bytes : List ℕ} → MODEL_BYTES < length bytes → IsReply bytes 8 too_large_text
 
 -- the status and the text that are due, and why
 pub data IsDue (words : List (List ℕ)) (old new : View) : ℕ → List ℕ → Type 0 where
@@ -88,15 +88,25 @@ pub record SolvesFile (words : List (List ℕ)) (host : View) (bytes : List ℕ)
   pub solve : IsSolve words file
   pub told : host.told file ≡ Some bytes
 
+-- the bytes are no more than a model may have, and a line of them is refused
+pub record IsRefused (bytes : List ℕ) : Type 0 where
+  pub short : length bytes ≤ MODEL_BYTES
+  pub line : ℕ
+  pub kind : RefusalKind
+  pub refusal : IsRefusal bytes line kind
+
 -- what is known of a run by its words, the host before it, its status and the host after it
 pub record Ran (words : List (List ℕ)) (old : View) (result : ℕ) (new : View) : Type 0 where
   -- how it ended, whatever the host tells
   pub ends : Ends words old result new
   -- a file that spells a problem is answered, unless the run was stopped
   pub solves : (bytes : List ℕ) (problem : PlainProblem) → SolvesFile words old bytes → length bytes ≤ MODEL_BYTES → Spells bytes problem → PrintedAnswer problem old result new ⊎ IsStopped old new result
-  -- a file that spells none is refused, and so is one that is too long
+  -- a file that spells none is refused
   pub refuses : (bytes : List ℕ) (line : ℕ) (kind : RefusalKind) → SolvesFile words old bytes → length bytes ≤ MODEL_BYTES → IsRefusal bytes line kind → Printed 3 (refusal_text line kind) old result new ⊎ IsStopped old new result
-  pub refuses_longer : (bytes : List ℕ) → SolvesFile words old bytes → MODEL_BYTES < length bytes → Printed 3 (refusal_text 0 Later) old result new ⊎ IsStopped old new result
+  pub refused_alone : result ≡ 3 → (bytes : List ℕ) → SolvesFile words old bytes → IsRefused bytes
+  -- a file that is too long is too large, and only such a file
+  pub too_large : (bytes : List ℕ) → SolvesFile words old bytes → MODEL_BYTES < length bytes → Printed 8 too_large_text old result new ⊎ IsStopped old new result
+  pub too_large_alone : result ≡ 8 → (bytes : List ℕ) → SolvesFile words old bytes → MODEL_BYTES < length bytes
   -- words of no known form get the usage text, and only these
   pub shows_usage : AreNoCommand words → Printed 2 usage_text old result new ⊎ IsStopped old new result
   pub usage_alone : result ≡ 2 → AreNoCommand words

@@ -2,7 +2,7 @@
 use Rattle.std.specs.Prelude.{ℕ, List, ◌++◌, codes}
 use Rattle.std.specs.Fmt.{decimal}
 use Rattle.hk_model.specs.declared.refusal.RefusalKind.{RefusalKind}
-use Rattle.hk_model.specs.declared.refusal.RefusalKind.TheVariants.{Later, Bad}
+use Rattle.hk_model.specs.declared.refusal.RefusalKind.TheVariants.{Text, Later, Syntax, Name, Limit, Scope, Unfinished}
 
 -- how the program is called
 abbrev pub usage_text : List ℕ
@@ -12,10 +12,19 @@ usage_text = codes "usage: hkdd solve FILE\n"
 abbrev pub read_fault_text : List ℕ
 read_fault_text = codes "read fault\n"
 
+-- that a model is too long
+abbrev pub too_large_text : List ℕ
+too_large_text = codes "too large\n"
+
 -- the name of a kind of refusal
 abbrev pub kind_text : RefusalKind → List ℕ
+kind_text Text = codes "Text"
 kind_text Later = codes "Later"
-kind_text Bad = codes "Bad"
+kind_text Syntax = codes "Syntax"
+kind_text Name = codes "Name"
+kind_text Limit = codes "Limit"
+kind_text Scope = codes "Scope"
+kind_text Unfinished = codes "Unfinished"
 
 -- that a model is refused at a line, and why
 abbrev pub refusal_text : ℕ → RefusalKind → List ℕ

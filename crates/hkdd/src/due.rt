@@ -3,7 +3,7 @@
 ghost use Rattle.std.specs.Prelude.{◌≡◌, ◌++◌, IfOk, OnOk};
 ghost use Rattle.hk_search.specs.AnswerTexts.{IsAnswerText};
 ghost use Rattle.hkdd.specs.Runs.{IsReply};
-ghost use Rattle.hkdd.specs.Texts.{usage_text, read_fault_text, refusal_text, kind_text};
+ghost use Rattle.hkdd.specs.Texts.{usage_text, read_fault_text, refusal_text, too_large_text, kind_text};
 
 use crate::limits::MODEL_BYTES;
 use hk_base::{Bytes, List};
@@ -39,14 +39,24 @@ pub fn read_fault(alloc: Global) -> Result<Due, AllocError>
     Ok(Due { status: 4, text })
 }
 
+/// Status 8, and that the model is too long. Fails only for want of memory.
+fn too_large(alloc: Global) -> Result<Due, AllocError>
+    ensures status { IfOk result (λ due. due.status ≡ 8) }
+    ensures text { IfOk result (λ due. due.text ≡ too_large_text) }
+{
+    let mut text = List::new(alloc);
+    text.push_all(b"too large\n")?;
+    Ok(Due { status: 8, text })
+}
+
 /// What `solve` says of the bytes of a model: status 0 and the answer of the problem that they spell,
-/// or status 3 and where and why they are refused. More bytes than a model may have are refused at
-/// line 0. Fails only for want of memory.
+/// or status 3 and where and why they are refused, or status 8 where they are more than a model may
+/// have. Fails only for want of memory.
 pub fn reply(alloc: Global, model: &[u8]) -> Result<Due, AllocError>
     ensures { IfOk result (λ due. IsReply model.now due.status due.text) }
 {
     if model.len() > MODEL_BYTES {
-        let due = refused(alloc, 0, RefusalKind::Later)?;
+        let due = too_large(alloc)?;
         return Ok(due);
     }
     match read_model(alloc, model) {
@@ -92,7 +102,12 @@ fn push_kind(text: &mut Bytes, kind: RefusalKind) -> Result<(), AllocError>
     ensures { OnOk result (text.new ≡ text.old ++ kind_text kind) }
 {
     match kind {
+        RefusalKind::Text => text.push_all(b"Text"),
         RefusalKind::Later => text.push_all(b"Later"),
-        RefusalKind::Bad => text.push_all(b"Bad"),
+        RefusalKind::Syntax => text.push_all(b"Syntax"),
+        RefusalKind::Name => text.push_all(b"Name"),
+        RefusalKind::Limit => text.push_all(b"Limit"),
+        RefusalKind::Scope => text.push_all(b"Scope"),
+        RefusalKind::Unfinished => text.push_all(b"Unfinished"),
     }
 }

@@ -1,4 +1,4 @@
 //! How much the program reads.
 
 /// How many bytes a model has at most.
-pub const MODEL_BYTES: usize = 65536;
+pub const MODEL_BYTES: usize = 1_048_576;

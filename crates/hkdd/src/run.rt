@@ -12,7 +12,7 @@ use std::thread::Threads;
 
 /// Runs the program on its words, without its own name, and answers its exit status.
 ///
-/// The one command is `solve FILE`: it reads a model of at most 65,536 bytes and prints its answer.
+/// The one command is `solve FILE`: it reads a model of at most 1,048,576 bytes and prints its answer.
 /// The host lends FILE as the model, and nothing went out through it before.
 ///
 /// | status | text on the output |
@@ -23,6 +23,12 @@ use std::thread::Threads;
 /// | 4 | `read fault` |
 /// | 5 | a front of the text that was being written |
 /// | 7 | nothing: memory was refused |
+/// | 8 | `too large` |
+///
+/// The steps are taken in this order, and the first that fails decides: the words are judged (2), the
+/// file is opened and read (4) up to the byte that shows that it is too long (8), its lines are judged
+/// (3), the answer is searched, and only then the first byte goes out (5). Memory may be refused at
+/// any step before that (7).
 pub fn run<R: Threads + Sync, H: Host, G: Gate + Sync>(
     _rt: &R,
     alloc: Global,

@@ -26,7 +26,13 @@ const THREE: &str = "hkm 1\nvar x in 0..1\nvar y in 0..1\nvar z in 0..1\nalldiff
 
 const SUM: &str = "hkm 1\nvar x in 0..1\nvar y in 0..1\nsum (1*x, 1*y) 1..1\nminimize (1*x, 1*y)\n";
 
+const LEAST: &str = "hkm 1\nvar x in 0..1\nvar y in 0..1\nsum (1*x, 1*y) 1..1\nminimize (-1*x)\n";
+
+const LARGE: &str = "hkm 1\nvar x in 0..1\nvar y in 0..1\nsum (1000001*x, 1*y) 1..1\n";
+
 const TURNED: &str = "hkm 1\nvar x in 0..1\nvar y in 0..1\nalldifferent (y, x)\n";
+
+const TWICE: &str = "hkm 1\nvar x in 0..1\nvar x in 0..1\nalldifferent (x, y)\n";
 
 /// A host with one input, `m`, so many bytes of room for what goes out, and one reading that fails,
 /// by its number from 1.
@@ -106,24 +112,33 @@ fn pair_ends_with<R: Threads + Sync>(
 /// A command line, the model in `m`, and the status and the text that are due.
 type Row = (&'static str, &'static str, u8, &'static str);
 
-fn rows() -> [Row; 11] {
+fn rows() -> [Row; 20] {
     [
         ("solve m", "hkm 1\n", 0, "solution\n"),
         ("solve m", PAIR, 0, "solution\nx 0\ny 1\n"),
         ("solve m", THREE, 0, "infeasible\n"),
-        ("solve m", SUM, 3, "refused line 4 Later\n"),
+        ("solve m", SUM, 0, "optimal 1\nx 0\ny 1\n"),
+        ("solve m", LEAST, 0, "optimal -1\nx 1\ny 0\n"),
+        ("solve m", LARGE, 3, "refused line 4 Limit\n"),
+        ("solve m", "hkm 1\nvar x in {127}\n", 0, "solution\nx 127\n"),
         (
             "solve m",
-            "hkm 1\nvar x in {0}\n",
+            "hkm 1\nvar x in 0..128\n",
             3,
-            "refused line 2 Later\n",
+            "refused line 2 Limit\n",
         ),
-        ("solve m", TURNED, 3, "refused line 4 Bad\n"),
-        ("solve m", "", 3, "refused line 1 Bad\n"),
+        ("solve m", "hkm 1\nvar $\n", 3, "refused line 2 Text\n"),
+        ("solve m", "hkm 2\n", 3, "refused line 1 Syntax\n"),
+        ("solve m", "hkm 1\ngroup\n", 3, "refused line 2 Later\n"),
+        ("solve m", TURNED, 3, "refused line 4 Scope\n"),
+        ("solve m", TWICE, 3, "refused line 3 Name\n"),
+        ("solve m", "", 3, "refused line 1 Unfinished\n"),
         ("solve q", PAIR, 4, "read fault\n"),
         ("", PAIR, 2, "usage: hkdd solve FILE\n"),
         ("solve", PAIR, 2, "usage: hkdd solve FILE\n"),
         ("solve m m", PAIR, 2, "usage: hkdd solve FILE\n"),
+        ("solve m width 0", PAIR, 2, "usage: hkdd solve FILE\n"),
+        ("demo 01", PAIR, 2, "usage: hkdd solve FILE\n"),
     ]
 }
 
@@ -150,8 +165,16 @@ fn reads_to_the_limit(rt: HostRuntime) -> Result<(), Fail> {
         )?
     );
     let longer = padded(rt.alloc(), MODEL_BYTES + 1)?;
-    let refusal = "refused line 0 Later\n";
-    assert!(rt; prints(&rt, rt.alloc(), "solve m", longer.as_slice(), 3, refusal)?);
+    assert!(rt;
+        prints(
+            &rt,
+            rt.alloc(),
+            "solve m",
+            longer.as_slice(),
+            8,
+            "too large\n"
+        )?
+    );
     Ok(())
 }
 

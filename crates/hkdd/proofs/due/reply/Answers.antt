@@ -1,8 +1,8 @@
-use Rattle.hkdd.proofs.Replies.{answers, refuses, too_long}
+use Rattle.hkdd.proofs.Replies.{answers, refuses, too_large}
 use Rattle.hkdd.proofs.due.reply.Goals as goal
 
 pub returns-then-model-gt-MODEL_BYTES : goal.returns-then-model-gt-MODEL_BYTES
-returns-then-model-gt-MODEL_BYTES c = too_long _ _ _ c.if-model-gt-MODEL_BYTES.true c.in_ok-due.ensures.status c.in_ok-due.ensures.text
+returns-then-model-gt-MODEL_BYTES c = too_large _ _ _ c.if-model-gt-MODEL_BYTES.true c.in_ok-due.ensures.status c.in_ok-due.ensures.text
 
 pub returns-in_ok-due-in-Ok : goal.returns-in_ok-due-in-Ok
 returns-in_ok-due-in-Ok c = answers _ _ _ _ c.if-model-gt-MODEL_BYTES.false c.in-Ok.ensures.spells c.in_ok-due-in-Ok.ensures.text c.in_ok-due-in-Ok.ensures.status
