@@ -40,11 +40,11 @@ capped_next whole value most digit fits is = grind (arith, min-le_left, min-le_r
 pub IsNumber-one : (text : List ℕ) (m n : ℕ) → IsNumber text m → IsNumber text n → m ≡ n
 IsNumber-one text m n one other = sym one.value ∙ other.value
 
--- while digits are written into a text of twenty bytes, there is room for one more
-pub room : (n left start : ℕ) (text : List ℕ) → n ≤ 2 ^ 63 → left ≤ n → length text ≡ 20 → start < length text → decimal n ≡ decimal left ++ drop (start + 1) text → 0 < start
+-- while digits are written into a text of 21 bytes, there is room for one more
+pub room : (n left start : ℕ) (text : List ℕ) → n < 2 ^ 64 → left ≤ n → length text ≡ 21 → start < length text → decimal n ≡ decimal left ++ drop (start + 1) text → 0 < start
 room n left start text fits below size inside written =
-    let small : 2 ^ 63 < 10 ^ 19 = lit< tt in
-    let short : length (decimal n) ≤ 19 = length-decimal-le 19 n (omega arith) (omega arith) (omega arith) in
+    let small : 2 ^ 64 < 10 ^ 20 = lit< tt in
+    let short : length (decimal n) ≤ 20 = length-decimal-le 20 n (omega arith) (omega arith) (omega arith) in
     let some : 0 < length (decimal left) = decimal_nonempty left (omega arith) in
     omega (arith, ap length written, length-append (decimal left) (drop (start + 1) text), length-drop (start + 1) text)
 

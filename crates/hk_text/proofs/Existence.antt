@@ -40,7 +40,7 @@ longest_pair b c rest pair = record {
     ends (d ∷ more) is = absurd is
 
 -- a symbol of one byte is the longest where the next byte makes no other with it
-longest_byte : (b : ℕ) (rest : List ℕ) → is_symbol_byte b ≡ true → ((c : ℕ) (more : List ℕ) → rest ≡ c ∷ more → is_symbol_pair b c ≡ false) → IsLongest Symbol (b ∷ []) rest
+pub longest_byte : (b : ℕ) (rest : List ℕ) → is_symbol_byte b ≡ true → ((c : ℕ) (more : List ℕ) → rest ≡ c ∷ more → is_symbol_pair b c ≡ false) → IsLongest Symbol (b ∷ []) rest
 longest_byte b rest byte no_pair = record {
   lexeme = byte;
   longest = λ other more left is goes_on.

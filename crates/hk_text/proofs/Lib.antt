@@ -1,8 +1,12 @@
+pub mod Appending
 pub mod Breaks
+pub mod Decimals
 pub mod Digits
 pub mod Existence
 pub mod Fronts
 pub mod Lexing
+pub mod Members
 pub mod Reading
 pub mod Spans
+pub mod Spelling
 pub mod Splitting

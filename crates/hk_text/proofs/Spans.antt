@@ -46,7 +46,7 @@ Splits-within line ending place bytes (token ∷ more) counted (rest, begins, sp
     (Splits-within line ending token.end rest more (omega (arith, counts.all)) splits)
 
 -- the text of the token that comes first is the slice of its span
-text_of-BeginsWith : (line front bytes : List ℕ) (token : Token) (rest : List ℕ) → line ≡ front ++ bytes → (begins : BeginsWith (length front) bytes token rest) → text_of line token ≡ begins.text
+pub text_of-BeginsWith : (line front bytes : List ℕ) (token : Token) (rest : List ℕ) → line ≡ front ++ bytes → (begins : BeginsWith (length front) bytes token rest) → text_of line token ≡ begins.text
 text_of-BeginsWith line front bytes token rest is begins =
     let before = front ++ begins.gap in
     let whole : line ≡ before ++ (begins.text ++ rest) =

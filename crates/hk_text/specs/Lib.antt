@@ -2,6 +2,7 @@ pub mod Bytes
 pub mod Lexemes
 pub mod Lines
 pub mod Numbers
+pub mod Sets
 pub mod Steps
 pub mod Texts
 pub mod Tokens

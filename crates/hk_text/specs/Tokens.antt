@@ -5,7 +5,8 @@ use Rattle.hk_text.specs.declared.tokenizer.Token.{Token}
 use Rattle.hk_text.specs.declared.tokenizer.TextFault.{TextFault}
 use Rattle.hk_text.specs.declared.tokenizer.TextFault.TheVariants.{NotAscii, BadByte, Memory}
 use Rattle.hk_text.specs.Bytes.{is_blank, hash}
-use Rattle.hk_text.specs.Lexemes.{IsLongest, BeginsNoToken}
+use Rattle.hk_text.specs.Lexemes.{IsLexeme, IsLongest, BeginsNoToken}
+use Rattle.hk_text.specs.Texts.{IsWithin, text_of, texts_of}
 
 -- bytes that stand at `place` in their line begin with this token, after blanks, and go on with `rest`
 pub record BeginsWith (place : ℕ) (bytes : List ℕ) (token : Token) (rest : List ℕ) : Type 0 where
@@ -70,3 +71,14 @@ abbrev pub IsFaultOf : List ℕ → TextFault → Type 0
 IsFaultOf line (NotAscii column) = (byte : ℕ) × IsBadByte line column byte × (128 ≤ byte)
 IsFaultOf line (BadByte column) = (byte : ℕ) × IsBadByte line column byte × (byte < 128)
 IsFaultOf line Memory = Unit {0}
+
+-- the token lies in the line, and its bytes there are a text of its kind
+pub record IsTokenIn (line : List ℕ) (token : Token) : Type 0 where
+  pub within : IsWithin line token
+  pub lexeme : IsLexeme token.kind (text_of line token)
+
+-- the bytes of the line's tokens, one after the other; all else in the line is blank or a comment
+pub record HasTexts (line : List ℕ) (texts : List (List ℕ)) : Type 0 where
+  pub tokens : List Token
+  pub split : AreTokensOf line tokens
+  pub texts_are : texts_of line tokens ≡ texts

@@ -5,8 +5,9 @@
 
 pub use lexemes::TokenKind;
 pub use lines::split_line;
-pub use numbers::{number_up_to, push_number};
+pub use numbers::{number_up_to, push_number, push_unsigned};
 pub use readings::one_reading;
+pub use sets::{push_set, push_values};
 pub use texts::{has_text, text_of};
 pub use tokenizer::{TextFault, Token, tokens};
 
@@ -15,6 +16,7 @@ mod lexemes;
 mod lines;
 mod numbers;
 mod readings;
+mod sets;
 #[cfg(test)]
 mod tests;
 mod texts;

@@ -5,8 +5,8 @@ ghost use Rattle.hk_text.specs.Numbers.{IsNumber, IsNumberUpTo, IsPlain};
 use hk_base::Bytes;
 use std::alloc::AllocError;
 
-/// The sign and the digits of any `i64` fit into as many bytes.
-const LONGEST: usize = 20;
+/// A sign and the digits of any `u64` fit into as many bytes.
+const LONGEST: usize = 21;
 
 /// The number that the text writes, or `most` where it is greater. None where the text is no number,
 /// or one with a needless zero. A number may have any length.
@@ -53,6 +53,17 @@ pub fn push_number(out: &mut Bytes, n: i64) -> Result<(), AllocError>
     Ok(())
 }
 
+/// Appends a number without a sign in decimal. Without memory for it the list stays as it was.
+pub fn push_unsigned(out: &mut Bytes, n: u64) -> Result<(), AllocError>
+    ensures ok { OnOk result (out.new ≡ out.old ++ decimal n) }
+    ensures err { OnErr result (out.new ≡ out.old) }
+{
+    let mut text = [0u8; LONGEST];
+    let start = write_digits(n, &mut text);
+    out.push_all(&text[start..])?;
+    Ok(())
+}
+
 /// Writes a number up to the end of the text, and answers where it begins.
 fn write_number(n: i64, text: &mut [u8]) -> usize
     requires { length text.old ≡ LONGEST }
@@ -69,8 +80,7 @@ fn write_number(n: i64, text: &mut [u8]) -> usize
 
 /// Writes the digits of a number up to the end of the text, and answers where they begin.
 fn write_digits(n: u64, text: &mut [u8]) -> usize
-    requires size { length text.old ≡ LONGEST }
-    requires fits { n ≤ 2 ^ 63 }
+    requires { length text.old ≡ LONGEST }
     ensures room { 0 < result }
     ensures within { result < LONGEST }
     ensures written { drop result text.new ≡ decimal n }

@@ -1,5 +1,6 @@
 use crate::{
-    TextFault, TokenKind, has_text, number_up_to, push_number, split_line, text_of, tokens,
+    TextFault, TokenKind, has_text, number_up_to, push_number, push_set, push_unsigned, split_line,
+    text_of, tokens,
 };
 use hk_base::Bytes;
 use std::test::Fail;
@@ -48,6 +49,21 @@ fn reads_and_writes_numbers(rt: HostRuntime) -> Result<(), Fail> {
     assert_eq!(rt;
         out.as_slice(),
         b"0 -1 -9223372036854775808 9223372036854775807 ".as_slice()
+    );
+    Ok(())
+}
+
+#[test]
+fn writes_sets(rt: HostRuntime) -> Result<(), Fail> {
+    let mut out = Bytes::new(rt.alloc());
+    for bits in [0, 9, 1 << 127 | 6] {
+        push_set(&mut out, bits)?;
+        out.push(b' ')?;
+    }
+    push_unsigned(&mut out, u64::MAX)?;
+    assert_eq!(rt;
+        out.as_slice(),
+        b"{} {0,3} {1,2,127} 18446744073709551615".as_slice()
     );
     Ok(())
 }
