@@ -6,12 +6,12 @@ use Rattle.std.proofs.lemmas.Map.Made.{is_member-Decides}
 use Rattle.std.proofs.lemmas.Slice.Eq.{bytes_eq-Decides}
 use Rattle.hk_text.specs.declared.tokenizer.Token.{Token}
 use Rattle.hk_text.specs.Texts.{texts_of}
-use Rattle.hk_text.specs.Tokens.{AreTokensOf, IsBadByte}
+use Rattle.hk_text.specs.Tokens.{AreTokensOf, IsBadByte, HasTexts}
 use Rattle.hk_text.proofs.Existence.{tokens_or_bad_byte}
 use Rattle.hk_model.specs.declared.refusal.RefusalKind.{RefusalKind}
 use Rattle.hk_model.specs.declared.refusal.RefusalKind.TheVariants.{Text, Later, Syntax, Name, Limit, Scope}
 use Rattle.hk_model.specs.LineFaults.{IsNameFault, IsLimitFault, IsScopeFault, IsFirstFault}
-use Rattle.hk_model.specs.Models.{HasTexts, IsGoodLine, good_empty, good_statement, IsLaterLine, later_words}
+use Rattle.hk_model.specs.Models.{IsGoodLine, good_empty, good_statement, IsLaterLine, later_words}
 use Rattle.hk_model.specs.Problems.{PlainProblem}
 use Rattle.hk_model.specs.Statements.{Statement, Header, Variable, Distinct, Total, Objective, Says, MayStand, empty_problem, declares_header}
 use Rattle.hk_model.proofs.Decisions.{dec_test}

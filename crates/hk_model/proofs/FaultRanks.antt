@@ -9,13 +9,13 @@ use Rattle.std.proofs.lemmas.Map.Made.{is_member-Decides}
 use Rattle.std.proofs.lemmas.Slice.Eq.{bytes_eq-Decides}
 use Rattle.hk_text.specs.declared.tokenizer.Token.{Token}
 use Rattle.hk_text.specs.Texts.{text_of, texts_of}
-use Rattle.hk_text.specs.Tokens.{AreTokensOf, IsBadByte}
+use Rattle.hk_text.specs.Tokens.{AreTokensOf, IsBadByte, HasTexts}
 use Rattle.hk_text.proofs.Reading.{tokens_no_bad_byte}
 use Rattle.hk_model.specs.declared.refusal.RefusalKind.{RefusalKind}
 use Rattle.hk_model.specs.declared.refusal.RefusalKind.TheVariants.{Text, Later, Syntax, Name, Limit, Scope, Unfinished}
 use Rattle.hk_model.specs.LineFaults.{IsNameFault, declared_twice, not_declared, second_objective, IsLimitFault, long_name, large_value, turned_range, no_value, many_variables, many_differ, many_totals, large_least, large_most, large_total_coef, large_coef, IsScopeFault, IsFault, fault_text, fault_later, fault_syntax, fault_name, fault_limit, fault_scope, rank, IsFirstFault}
 use Rattle.hk_model.specs.Faults.{BeginsLater}
-use Rattle.hk_model.specs.Models.{HasTexts, IsGoodLine, good_empty, IsBadLine, IsLaterLine, later_words}
+use Rattle.hk_model.specs.Models.{IsGoodLine, good_empty, IsBadLine, IsLaterLine, later_words}
 use Rattle.hk_model.specs.Problems.{PlainProblem}
 use Rattle.hk_model.specs.Statements.{Statement, Header, Variable, Distinct, Total, Objective, Says, says_header, says_variable, says_distinct, says_total, says_objective, MayStand, Declares}
 use Rattle.hk_model.proofs.Elements.{any_nil}

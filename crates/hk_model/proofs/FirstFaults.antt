@@ -1,4 +1,5 @@
 -- The first fault of a line, from that of the shape of its tokens; and the effect of a shape is that of the line.
+use Rattle.hk_text.specs.Tokens.{HasTexts}
 use Rattle.std.proofs.Common.{ℕ, List, Option, None, Some, refl, subst}
 use Rattle.hk_model.specs.declared.faults.LineFault.{LineFault}
 use Rattle.hk_model.specs.declared.faults.LineFault.TheVariants.{Bad, NoMemory}
@@ -8,7 +9,7 @@ use Rattle.hk_model.specs.declared.shapes.Shape.{Shape}
 use Rattle.hk_model.specs.Declarations.{statement_of}
 use Rattle.hk_model.specs.Faults.{IsFaultyStatement, IsStatementFault, IsLineFault}
 use Rattle.hk_model.specs.LineFaults.{IsFirstFault}
-use Rattle.hk_model.specs.Models.{HasTexts, IsGoodLine, good_statement}
+use Rattle.hk_model.specs.Models.{IsGoodLine, good_statement}
 use Rattle.hk_model.specs.Problems.{PlainProblem}
 use Rattle.hk_model.specs.Shapes.{capped_statement, IsShapeOf}
 use Rattle.hk_model.specs.Statements.{Statement, Says, MayStand, Declares}

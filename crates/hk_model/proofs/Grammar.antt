@@ -1,4 +1,5 @@
 -- A line has at most one meaning: its texts, what they say and what is declared after it are determined.
+use Rattle.hk_text.specs.Tokens.{HasTexts}
 use Rattle.std.proofs.Common.{◌≡◌, ◌≢◌, ℕ, ◌<◌, ℤ, List, [], ◌∷◌, ◌++◌, map, Option, Some, refl, sym, ap, subst, ◌∙◌, arith}
 use Rattle.std.specs.Int.{bit_at}
 use Rattle.std.proofs.lemmas.Nat.Bits.{same_from_bits, bit_at-lt}
@@ -11,7 +12,7 @@ use Rattle.hk_model.specs.declared.problem.Constraint.TheVariants.{AllDifferent,
 use Rattle.hk_model.specs.Phrases.{Values, SetThen, TermsThen, BoundsThen}
 use Rattle.hk_model.specs.Problems.{PlainProblem}
 use Rattle.hk_model.specs.Statements.{Statement, Variable, Distinct, Total, Objective, Says, says_header, says_variable, says_distinct, says_total, says_objective, scope_end, term_coefs, IsSetOf, AddsVariable, AreNamesOf, AddsConstraint, AddsObjective, Declares, declares_header, declares_variable, declares_distinct, declares_total, declares_objective}
-use Rattle.hk_model.specs.Models.{HasTexts, IsGoodLine, good_empty, good_statement, IsBadLine}
+use Rattle.hk_model.specs.Models.{IsGoodLine, good_empty, good_statement, IsBadLine}
 use Rattle.hk_model.proofs.Marks.{apart, apart_none, same_first, same_rest}
 use Rattle.hk_model.proofs.Phrasing.{set_one, terms_one, bounds_one}
 

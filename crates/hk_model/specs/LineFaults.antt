@@ -1,11 +1,11 @@
 -- Why a line is bad: each kind of fault, by the line's tokens and what was declared before, and the order of the kinds.
 use Rattle.std.specs.Prelude.{◌≡◌, ◌≢◌, ℕ, ◌<◌, ◌≤◌, ℤ, List, [], length, map, Any, Option, None, Some, IsSome}
 use Rattle.std.specs.List.Sorted.{IsStrictlyIncreasing}
-use Rattle.hk_text.specs.Tokens.{IsBadByte}
+use Rattle.hk_text.specs.Tokens.{IsBadByte, HasTexts}
 use Rattle.hk_model.specs.declared.limits.TheConstants.{VARIABLES, VALUES, NAME_BYTES, CONSTRAINTS, COEFFICIENT, LIM}
 use Rattle.hk_model.specs.declared.refusal.RefusalKind.{RefusalKind}
 use Rattle.hk_model.specs.declared.refusal.RefusalKind.TheVariants.{Text, Later, Syntax, Name, Limit, Scope, Unfinished}
-use Rattle.hk_model.specs.Models.{HasTexts, IsLaterLine}
+use Rattle.hk_model.specs.Models.{IsLaterLine}
 use Rattle.hk_model.specs.Phrases.{Values, Term}
 use Rattle.hk_model.specs.Problems.{PlainProblem, IsWithin}
 use Rattle.hk_model.specs.Statements.{Statement, Header, Variable, Distinct, Total, Objective, Says, MayStand, place_of, term_names, term_coefs}

@@ -1,17 +1,9 @@
 -- Which problem the bytes of a model spell, and which of its lines is the first bad one.
 use Rattle.std.specs.Prelude.{◌≡◌, ℕ, ◌+◌, List, [], ◌∷◌, ◌++◌, length, Option, None, Some, Contains, codes}
-use Rattle.hk_text.specs.declared.tokenizer.Token.{Token}
 use Rattle.hk_text.specs.Lines.{lines}
-use Rattle.hk_text.specs.Texts.{texts_of}
-use Rattle.hk_text.specs.Tokens.{AreTokensOf}
+use Rattle.hk_text.specs.Tokens.{HasTexts}
 use Rattle.hk_model.specs.Problems.{PlainProblem}
 use Rattle.hk_model.specs.Statements.{Statement, Says, Declares}
-
--- the bytes of the line's tokens, one after the other; all else in the line is blank or a comment
-pub record HasTexts (line : List ℕ) (texts : List (List ℕ)) : Type 0 where
-  pub tokens : List Token
-  pub split : AreTokensOf line tokens
-  pub texts_are : texts_of line tokens ≡ texts
 
 -- a good line: one without tokens, which has no effect, or one that says a statement which may stand there
 pub data IsGoodLine : Option PlainProblem → List ℕ → Option PlainProblem → Type 0 where

@@ -1,18 +1,10 @@
 -- The shape of a line's tokens: the statement that they say, each of its numbers capped above the limits.
 use Rattle.std.specs.Prelude.{◌≡◌, ℕ, ℤ, pos, negsuc, neg_ℤ, suc, List, [], map, min}
-use Rattle.hk_text.specs.declared.tokenizer.Token.{Token}
-use Rattle.hk_text.specs.Lexemes.{IsLexeme}
-use Rattle.hk_text.specs.Texts.{text_of, IsWithin}
 use Rattle.hk_model.specs.declared.phrases.TheConstants.{CAP}
 use Rattle.hk_model.specs.declared.shapes.Shape.{Shape}
 use Rattle.hk_model.specs.Declarations.{statement_of}
 use Rattle.hk_model.specs.Phrases.{Values, Term, BoundsThen}
 use Rattle.hk_model.specs.Statements.{Statement, Header, Variable, Distinct, Total, Objective, Says}
-
--- the token lies in the line, and its bytes there are a text of its kind
-pub record IsTokenIn (line : List ℕ) (token : Token) : Type 0 where
-  pub within : IsWithin line token
-  pub lexeme : IsLexeme token.kind (text_of line token)
 
 -- what tokens begin with, capped, and their rest
 pub record BeginsCapped {X : Type 0} (Phrase : List (List ℕ) → X → List (List ℕ) → Type 0) (cap : X → X) (texts : List (List ℕ)) (answer : X) (rest : List (List ℕ)) : Type 0 where

@@ -1,8 +1,8 @@
+ghost use Rattle.hk_text.specs.Tokens.{IsTokenIn};
 ghost use Rattle.std.specs.Prelude.{◌↔◌, map, All, Contains, IsTrue};
 ghost use Rattle.hk_text.specs.Texts.{texts_of};
 ghost use Rattle.hk_model.specs.Faults.{BeginsLater};
 ghost use Rattle.hk_model.specs.Models.{later_words};
-ghost use Rattle.hk_model.specs.Shapes.{IsTokenIn};
 
 use hk_text::{Token, text_of};
 

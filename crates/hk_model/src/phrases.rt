@@ -1,12 +1,13 @@
 //! The phrases of a line: what its tokens begin with, and the tokens after that.
 
+ghost use Rattle.hk_text.specs.Tokens.{IsTokenIn};
 ghost use Rattle.std.specs.Prelude.{◌≡◌, ◌∷◌, ◌↔◌, ◌≤◌, [], List as Seq, ℕ, ℤ, pos, neg_ℤ, All, IsTrue, IfOk, IfSome, IsNone, map};
 ghost use Rattle.hk_text.specs.Lexemes.{IsWord};
 ghost use Rattle.hk_text.specs.Texts.{text_of, texts_of};
 ghost use Rattle.hk_model.specs.Declarations.{values_of, terms_of, plain_values, plain_term};
 ghost use Rattle.hk_model.specs.Phrases.{SignedThen, ItemsThen, SetThen, TermsThen, BoundsThen};
 ghost use Rattle.hk_model.specs.Pieces.{NumberThen, WordThen, RangeThen, ItemThen, TermThen, NamesThen};
-ghost use Rattle.hk_model.specs.Shapes.{IsTokenIn, BeginsCapped, BeginsWithout, AreBounds, capped, capped_signed, capped_values, capped_term};
+ghost use Rattle.hk_model.specs.Shapes.{BeginsCapped, BeginsWithout, AreBounds, capped, capped_signed, capped_values, capped_term};
 
 use hk_base::List;
 use hk_text::{Token, TokenKind, has_text, number_up_to, text_of};

@@ -1,10 +1,9 @@
 ghost use Rattle.std.specs.Prelude.{◌↔◌, ◌≤◌, length, All, IsSome, IsTrue, OnOk, IfOk, IfErr};
 ghost use Rattle.hk_text.specs.Texts.{texts_of};
-ghost use Rattle.hk_text.specs.Tokens.{AreTokensOf};
+ghost use Rattle.hk_text.specs.Tokens.{AreTokensOf, IsTokenIn};
 ghost use Rattle.hk_model.specs.Faults.{BeginsLater, IsLineFault};
 ghost use Rattle.hk_model.specs.Models.{IsGoodLine, Spells};
 ghost use Rattle.hk_model.specs.Refused.{IsErrorOf};
-ghost use Rattle.hk_model.specs.Shapes.{IsTokenIn};
 
 use crate::declaring::declare;
 use crate::draft::Draft;

@@ -1,8 +1,9 @@
 //! The shape of a line: which statement its tokens say.
 
+ghost use Rattle.hk_text.specs.Tokens.{IsTokenIn};
 ghost use Rattle.std.specs.Prelude.{◌≡◌, ◌∷◌, ◌↔◌, [], All, IsTrue, IfOk, IfSome, IsNone, codes};
 ghost use Rattle.hk_text.specs.Texts.{texts_of};
-ghost use Rattle.hk_model.specs.Shapes.{IsTokenIn, IsShapeOf, SayNothing};
+ghost use Rattle.hk_model.specs.Shapes.{IsShapeOf, SayNothing};
 
 use crate::phrases::{Term, Values, after_text, bounds_of, names_of, set_of, terms_of, word_of};
 use hk_base::List;

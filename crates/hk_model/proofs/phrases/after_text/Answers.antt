@@ -1,6 +1,6 @@
+use Rattle.hk_text.specs.Tokens.{IsTokenIn}
 use Rattle.std.proofs.Common.{All, subst}
 use Rattle.std.proofs.lemmas.List.Elements.{All-tail}
-use Rattle.hk_model.specs.Shapes.{IsTokenIn}
 use Rattle.hk_model.proofs.phrases.after_text.Goals as goal
 
 pub returns-clause-tokens : goal.returns-clause-tokens

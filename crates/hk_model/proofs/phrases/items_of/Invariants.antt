@@ -1,8 +1,9 @@
+use Rattle.hk_text.specs.Tokens.{IsTokenIn}
 use Rattle.std.proofs.Common.{All, length}
 use Rattle.hk_text.specs.Texts.{texts_of}
 use Rattle.hk_model.specs.Declarations.{values_of}
 use Rattle.hk_model.specs.Phrases.{ItemsThen}
-use Rattle.hk_model.specs.Shapes.{IsTokenIn, capped_values}
+use Rattle.hk_model.specs.Shapes.{capped_values}
 use Rattle.hk_model.proofs.Lists.{ReadsOn}
 use Rattle.hk_model.proofs.phrases.items_of.Given as goal
 

@@ -1,7 +1,7 @@
+use Rattle.hk_text.specs.Tokens.{IsTokenIn}
 use Rattle.std.proofs.Common.{All, length, map}
 use Rattle.hk_text.specs.Texts.{texts_of}
 use Rattle.hk_model.specs.Pieces.{NamesThen}
-use Rattle.hk_model.specs.Shapes.{IsTokenIn}
 use Rattle.hk_model.proofs.Lists.{ReadsOn}
 use Rattle.hk_model.proofs.Membership.{now_of}
 use Rattle.hk_model.proofs.phrases.names_of.Given as goal

@@ -1,8 +1,9 @@
+use Rattle.hk_text.specs.Tokens.{IsTokenIn}
 use Rattle.std.proofs.Common.{All, length}
 use Rattle.hk_text.specs.Texts.{texts_of}
 use Rattle.hk_model.specs.Declarations.{terms_of}
 use Rattle.hk_model.specs.Phrases.{TermsThen}
-use Rattle.hk_model.specs.Shapes.{IsTokenIn, capped_term}
+use Rattle.hk_model.specs.Shapes.{capped_term}
 use Rattle.hk_model.proofs.Lists.{ReadsOn}
 use Rattle.hk_model.proofs.phrases.terms_of.Given as goal
 

@@ -1,7 +1,7 @@
+use Rattle.hk_text.specs.Tokens.{IsTokenIn}
 use Rattle.std.proofs.Common.{◌≡◌, sym, subst}
 use Rattle.std.specs.List.{All}
 use Rattle.hk_model.specs.LineFaults.{fault_text}
-use Rattle.hk_model.specs.Shapes.{IsTokenIn}
 use Rattle.hk_model.proofs.FaultRanks.{first_text, fault_bad}
 use Rattle.hk_model.proofs.reading.read_line.Goals as goal
 

@@ -1,9 +1,9 @@
+use Rattle.hk_text.specs.Tokens.{HasTexts}
 use Rattle.std.proofs.Common.{◌≢◌, ◌==◌, length, true≢false, ap, sym, ◌∙◌, refl}
 use Rattle.std.proofs.lemmas.Result.{on_ok_weaker, IfErr-weaker}
 use Rattle.hk_text.specs.Texts.{texts_of}
 use Rattle.hk_model.specs.Declarations.{statement_of}
 use Rattle.hk_model.specs.Faults.{IsStatementFault, IsLineFault}
-use Rattle.hk_model.specs.Models.{HasTexts}
 use Rattle.hk_model.specs.Shapes.{IsShapeOf}
 use Rattle.hk_model.proofs.FaultRanks.{zero_from_test, has_texts, empty_line, texts_some, later_line, later_begins, first_later, first_syntax, fault_bad}
 use Rattle.hk_model.proofs.FirstFaults.{first_of_statement, effect_of_statement}
