@@ -1,0 +1,12 @@
+pub mod BlockLines
+pub mod CondTexts
+pub mod Expressions
+pub mod LineTexts
+pub mod Names
+pub mod NumTexts
+pub mod Pieces
+pub mod Printed
+pub mod Saying
+pub mod SetTexts
+pub mod SpecTexts
+pub mod Trees
