@@ -9,8 +9,6 @@ pub use problem::{Constraint, Constraints, Names, Problem};
 pub use reading::read_model;
 pub use refusal::{ModelError, Refusal, RefusalKind};
 
-mod binding;
-mod declared;
 mod declaring;
 mod draft;
 mod faults;
@@ -20,7 +18,6 @@ mod laws;
 pub mod limits;
 mod linear;
 mod phrases;
-mod posts;
 mod problem;
 mod reading;
 mod refusal;
