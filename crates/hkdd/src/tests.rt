@@ -112,7 +112,7 @@ fn pair_ends_with<R: Threads + Sync>(
 /// A command line, the model in `m`, and the status and the text that are due.
 type Row = (&'static str, &'static str, u8, &'static str);
 
-fn rows() -> [Row; 20] {
+fn rows() -> [Row; 21] {
     [
         ("solve m", "hkm 1\n", 0, "solution\n"),
         ("solve m", PAIR, 0, "solution\nx 0\ny 1\n"),
@@ -138,6 +138,12 @@ fn rows() -> [Row; 20] {
         ("solve", PAIR, 2, "usage: hkdd solve FILE\n"),
         ("solve m m", PAIR, 2, "usage: hkdd solve FILE\n"),
         ("solve m width 0", PAIR, 2, "usage: hkdd solve FILE\n"),
+        (
+            "solve m budget 5 width 2",
+            PAIR,
+            2,
+            "usage: hkdd solve FILE\n",
+        ),
         ("demo 01", PAIR, 2, "usage: hkdd solve FILE\n"),
     ]
 }
