@@ -1,12 +1,10 @@
 -- The values of a set, one after another.
-use Rattle.std.proofs.Common.{◌≡◌, ℕ, zero, suc, ◌+◌, ◌≤◌, ◌<◌, ◌^◌, ◌-◌, ◌==◌, Bool, true, false, cond, List, [], ◌∷◌, ◌++◌, refl, sym, ap, ◌∙◌, append_assoc, arith, subst, lit<}
+use Rattle.std.proofs.Common.{◌≡◌, ℕ, zero, suc, ◌+◌, ◌≤◌, ◌-◌, ◌==◌, Bool, true, false, cond, List, [], ◌∷◌, ◌++◌, refl, sym, ap, ◌∙◌, append_assoc, arith, subst}
 use Rattle.std.specs.Fmt.{decimal}
 use Rattle.std.specs.Int.{bit_at}
 use Rattle.std.specs.List.{filter, range_with_len}
 use Rattle.std.proofs.lemmas.List.{append-nil, flat_map_more, map-id}
 use Rattle.std.proofs.lemmas.List.FromFn.{filter_of_map_range_with_len_more}
-use Rattle.std.proofs.lemmas.Bool.Decides.{nat_tests}
-use Rattle.std.proofs.lemmas.Nat.Bits.{bit_at-lt, bit_at-zero, same_from_bits_below}
 use Rattle.hk_base.specs.Lists.{AppendsFront, IsFrontOf}
 use Rattle.hk_text.specs.Sets.{members_below, members, values_text}
 
@@ -100,34 +98,3 @@ members_text_stopped lead between set n old middle new within has before last =
       };
       appended = last.appended ∙ ap (λ xs. xs ++ last.front) before ∙ append_assoc old (values_text lead between some) last.front;
     }
-
--- the empty set has no values
-pub members_none : members 0 ≡ []
-unfolding members
-members_none = refl
-
-front_none : (xs ys : List ℕ) → xs ++ ys ≡ [] → xs ≡ []
-front_none [] ys is = refl
-front_none (x ∷ xs) ys is = cc
-
-lacks_last : (xs : List ℕ) (n : ℕ) (b : Bool) → xs ++ cond b (n ∷ []) [] ≡ [] → b ≡ false
-lacks_last [] n true is = cc
-lacks_last [] n false is = refl
-lacks_last (x ∷ xs) n b is = cc
-
--- a set with no values below a number has none of the bits below it
-pub lacks_below : (set n k : ℕ) → suc k ≤ n → members_below set n ≡ [] → bit_at set k ≡ 0
-lacks_below set n k within empty =
-    let on : k + 1 + (n - suc k) ≡ n = omega arith in
-    let some = members_below_front set (k + 1) (n - suc k) in
-    let last = cond (bit_at set k == 1) (k ∷ []) [] in
-    let none : (members_below set k ++ last) ++ some.rest ≡ [] = ap (λ xs. xs ++ some.rest) (sym (members_below_more set k)) ∙ sym some.parts ∙ ap (members_below set) on ∙ empty in
-    let lacks = lacks_last (members_below set k) k (bit_at set k == 1) (front_none (members_below set k ++ last) some.rest none) in
-    let small = bit_at-lt set k in
-    grind (arith, nat_tests)
-
--- a set with no values is the empty one
-pub members_some : (set : ℕ) → set < 2 ^ 128 → members set ≡ [] → set ≡ 0
-unfolding members
-members_some set fits empty =
-    same_from_bits_below 128 set 0 fits (lit< tt) (λ k within. lacks_below set 128 k within empty ∙ sym (bit_at-zero k))

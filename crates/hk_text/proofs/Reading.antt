@@ -10,7 +10,8 @@ use Rattle.hk_text.specs.declared.lexemes.TokenKind.TheVariants.{Word, Number, S
 use Rattle.hk_text.specs.declared.tokenizer.Token.{Token}
 use Rattle.hk_text.specs.Bytes.{is_blank, hash, is_word_start, is_symbol_byte, is_symbol_pair}
 use Rattle.hk_text.specs.Lexemes.{IsLexeme, IsLongest}
-use Rattle.hk_text.specs.Tokens.{BeginsWith, IsComment, IsQuiet, IsStuck, Ending, Quietly, Badly, Ends, Splits, AreTokensOf, IsBadByte}
+use Rattle.hk_text.specs.Tokens.{BeginsWith, IsComment, IsQuiet, IsStuck, Ending, Quietly, Badly, Ends, Splits, AreTokensOf, IsBadByte, HasTexts}
+use Rattle.hk_text.specs.Texts.{texts_of}
 use Rattle.hk_text.proofs.Lexing.{same_kind}
 
 -- the bytes begin with no blank
@@ -209,3 +210,11 @@ pub tokens_no_bad_byte : (line : List ℕ) (ss : List Token) (column byte : ℕ)
 tokens_no_bad_byte line ss column byte x y =
     let same : Quietly ≡ Badly column byte = (same_splits Quietly (Badly column byte) 0 line ss y.before x y.splits).0 in
     cc
+
+-- a line has one list of texts
+pub same_texts : {line : List ℕ} {a b : List (List ℕ)} → HasTexts line a → HasTexts line b → a ≡ b
+same_texts {line = line} x y = sym x.texts_are ∙ ap (texts_of line) (same_tokens line x.tokens y.tokens x.split y.split) ∙ y.texts_are
+
+-- a line with a bad byte has no texts
+pub bad_byte_no_texts : {line : List ℕ} {column byte : ℕ} {texts : List (List ℕ)} → IsBadByte line column byte → HasTexts line texts → ⊥
+bad_byte_no_texts {line = line} {column = column} {byte = byte} bad has = tokens_no_bad_byte line has.tokens column byte has.split bad
