@@ -14,6 +14,8 @@ mod runs;
 mod settings;
 mod specification;
 mod steps;
+#[cfg(test)]
+mod tests;
 mod values;
 
 pub use arguments::Arg;

@@ -26,7 +26,8 @@ pub fn write_steps(steps: &[StepExpr], at: &Setting<'_>, to: &mut State, first: 
     // The places of a state fit their type, as those of a slice do.
     let _properties = to.as_slice();
     for i in 0..steps.len() {
-        to.set(first + i, step_value(&steps[i], at));
+        let value = step_value(&steps[i], at);
+        to.set(first + i, value);
     }
 }
 

@@ -14,7 +14,7 @@ pub loop-i-preserved : goal.loop-i-preserved
 loop-i-preserved c =
     let within : c.args.first + c.loop-i.i < length c.args.to.now = within_part _ _ _ _ c.loop-i-test.true c.requires in
     let inside : c.args.first + c.loop-i.i < length c.loop-i.to = omega arith in
-    let written : c.set.new.self ≡ set c.loop-i.to (c.args.first + c.loop-i.i) (step_value c.args.at.now c.index-steps-i.result) = c.set.ensures ∙ ap (set c.loop-i.to (c.args.first + c.loop-i.i)) c.step_value.ensures in
+    let written : c.set.new.self ≡ set c.loop-i.to (c.args.first + c.loop-i.i) (step_value c.args.at.now c.index-steps-i.result) = c.set.ensures ∙ ap (set c.loop-i.to (c.args.first + c.loop-i.i)) c.step_value-value.ensures in
     record {
       due =
           step_written (step_value c.args.at.now) c.args.steps.now c.index-steps-i.result _ c.loop-i.to _ c.args.first c.loop-i.i c.loop-i-test.true c.index-steps-i.is inside c.loop-i.invariant.due
