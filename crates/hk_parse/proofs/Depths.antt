@@ -1,9 +1,7 @@
 -- An expression is as deep as what is written of it.
-use Rattle.std.proofs.Common.{◌≡◌, ℕ, ◌+◌, max, sym, ap, ◌∙◌, subst, refl, ◌≤◌, arith, true}
-use Rattle.std.proofs.lemmas.Bool.{and_parts, leb-true}
-use Rattle.hk_parse.specs.BlockLines.{scope_of}
+use Rattle.std.proofs.Common.{◌≡◌, ℕ, ◌+◌, max, sym, ap, ◌∙◌, subst, refl}
 use Rattle.hk_spec.specs.Scopes as scopes
-use Rattle.hk_spec.specs.Scopes.{set_depth_step, num_depth_step, cond_depth_step, is_good_num, is_good_set}
+use Rattle.hk_spec.specs.Scopes.{set_depth_step, num_depth_step, cond_depth_step}
 use Rattle.hk_spec.specs.declared.expressions.NumExpr.{NumExpr}
 use Rattle.hk_spec.specs.declared.expressions.NumExpr.TheOpen.{NumExpr-F}
 use Rattle.hk_spec.specs.declared.expressions.NumExpr.TheViews.{roll-NumExpr}
@@ -92,14 +90,3 @@ module _ (names : Names) where
   -- a condition is as deep as what is written of it
   pub cond_deep : (e : Cond) → AsDeepCond e
   cond_deep = ind-Cond AsDeepCond (λ x y same. cond_rolled x (subst (λ z. cond_depth (cond_text_step names (map-Cond Cond CondText (cond_text names) z)) ≡ cond_depth_step (map-Cond Cond ℕ scopes.cond_depth z)) same (cond_layer (λ s. s.0) (λ s. s.1) y)))
-
--- what is written of a good expression is not too deep
-pub num_shallow : (names : Names) {text : NumText} (e : NumExpr) → num_text names e ≡ text → is_good_num (scope_of names) e ≡ true → num_depth text ≤ 32
-num_shallow names {text = text} e is good =
-    let depth : num_depth text ≡ scopes.num_depth e = ap num_depth (sym is) ∙ num_deep names e in
-    omega (arith, depth, leb-true (scopes.num_depth e) 32 (and_parts (scopes.num_fits (scope_of names) e) _ good).1)
-
-pub set_shallow : (names : Names) {text : SetText} (e : SetExpr) → set_text names e ≡ text → is_good_set (scope_of names) e ≡ true → set_depth text ≤ 32
-set_shallow names {text = text} e is good =
-    let depth : set_depth text ≡ scopes.set_depth e = ap set_depth (sym is) ∙ set_deep names e in
-    omega (arith, depth, leb-true (scopes.set_depth e) 32 (and_parts (scopes.set_fits (scope_of names) e) _ good).1)

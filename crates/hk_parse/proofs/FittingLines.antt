@@ -23,7 +23,8 @@ use Rattle.hk_parse.specs.Names.{Names, NamesNum, NamesSet, NamesCond, SmallNum,
 use Rattle.hk_parse.specs.NumTexts.{IsNumText}
 use Rattle.hk_parse.specs.SetTexts.{IsSetText}
 use Rattle.hk_parse.specs.Trees.{init_text, step_text, num_text, set_text, cond_text}
-use Rattle.hk_parse.proofs.Depths.{cond_deep, num_shallow, set_shallow}
+use Rattle.hk_parse.proofs.Depths.{cond_deep}
+use Rattle.hk_parse.proofs.StepTexts.{num_shallow, set_shallow}
 use Rattle.hk_parse.proofs.FittingTexts.{AreWords, signed_written, signed_small, members_written, members_small}
 use Rattle.hk_parse.proofs.FittingTrees.{num_good, set_good, cond_good}
 

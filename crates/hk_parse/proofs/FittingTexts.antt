@@ -1,5 +1,4 @@
 -- How an expression that fits its names is written: its words and numbers are well written, its names stand for what their places ask, and its numbers are within their limits.
-use Rattle.hk_text.proofs.Digits.{IsNumber-one}
 use Rattle.std.proofs.Common.{◌≡◌, ℕ, ℤ, pos, negsuc, zero, suc, ◌<◌, ◌≤◌, ◌+◌, ◌^◌, ◌==◌, Bool, true, false, List, [], ◌∷◌, get_or, map, All, Option, None, Some, slice_get, inl, inr, refl, sym, ap, subst, arith}
 use Rattle.std.specs.Fmt.{decimal}
 use Rattle.std.specs.Int.{bit_at}
@@ -22,18 +21,14 @@ use Rattle.hk_spec.specs.declared.parts.ParamKind.{ParamKind}
 use Rattle.hk_spec.specs.declared.parts.ParamKind.TheVariants as param
 use Rattle.hk_spec.specs.declared.parts.PropDecl.{PropDecl}
 use Rattle.hk_text.specs.Lexemes.{IsWord}
-use Rattle.hk_text.specs.Sets.{members}
 use Rattle.hk_text.specs.Numbers.{IsNumber, IsPlain}
 use Rattle.hk_parse.specs.BlockLines.{scope_of}
 use Rattle.hk_parse.specs.Names.{Names, HasParam, HasProperty, WritesUpTo}
 use Rattle.hk_parse.specs.NumTexts.{IsSigned}
 use Rattle.hk_parse.specs.SetTexts.{AreNumbers, no_number, then_number, AreRisingNumbers}
-use Rattle.hk_parse.specs.Trees.{member_texts, is_negative, digits_of, param_name, property_name, properties_of}
+use Rattle.hk_parse.specs.Trees.{members, member_texts, is_negative, digits_of, param_name, property_name, properties_of}
+use Rattle.hk_parse.proofs.LiteralTexts.{writes_up_to}
 use Rattle.hk_parse.proofs.PrintedTexts.{there_by_kind, property_there}
-
--- a text that writes a number writes none above what it is at most
-writes_up_to : {text : List ℕ} {n most : ℕ} → IsNumber text n → n ≤ most → WritesUpTo most text
-writes_up_to {text = text} {n = n} number small other is = omega (arith, small, IsNumber-one text other n is number)
 
 -- the digits of a number write it
 pub decimal_number : (n : ℕ) → n < 2 ^ 64 → IsNumber (decimal n) n
@@ -85,12 +80,10 @@ numbers_small (value ∷ values) below =
     All-cons (WritesUpTo 127) (decimal value) (map decimal values) (writes_up_to (decimal_number value (omega (arith, small))) (omega (arith, small))) (numbers_small values (All-tail (λ value. value < 128) value values below))
 
 members_below : (set : ℕ) → All (λ value. value < 128) (members set)
-unfolding members
 members_below set = All-filter (λ value. bit_at set value == 1) (λ value. value < 128) (range_with_len 0 128) (range_below 0 128 128 (omega arith))
 
 -- the values of a set are rising numbers
 pub members_written : (set : ℕ) → AreRisingNumbers (member_texts set)
-unfolding members
 members_written set = record {
   numbers = members set;
   written = numbers_written (members set) (members_below set);

@@ -3,8 +3,9 @@ use Rattle.std.proofs.Common.{◌≢◌, ℕ, List, [], ◌∷◌, ◌++◌, map
 use Rattle.std.proofs.lemmas.List.{map-append}
 use Rattle.hk_spec.specs.Specifications.{Specification}
 use Rattle.hk_text.specs.Tokens.{HasTexts}
-use Rattle.hk_parse.specs.Saying.{BeginsWith, GoesOn, Ends, IsWhole}
+use Rattle.hk_parse.specs.BlockFaults.{BeginsWith, GoesOn, Ends}
 use Rattle.hk_parse.specs.BlockLines.{Part}
+use Rattle.hk_parse.specs.Blocks.{IsWhole}
 use Rattle.hk_parse.specs.LineTexts.{LineText, Begin, Property, Test, Step, End, line_texts, SaysLine}
 use Rattle.hk_parse.specs.Pieces.{tokens_of}
 use Rattle.hk_parse.specs.SpecTexts.{Stage, Before, Within, Whole, IsGoodLine, good_empty, good_first, good_later, good_end, AreGoodLines, no_line, then_line, AreTextsOf, no_lines, without_texts, with_texts}

@@ -18,8 +18,9 @@ use Rattle.hk_spec.specs.declared.parts.ParamKind.TheVariants as param
 use Rattle.hk_spec.specs.declared.parts.PropDecl.{PropDecl}
 use Rattle.hk_spec.specs.declared.parts.StepExpr.{StepExpr}
 use Rattle.hk_spec.specs.declared.parts.StepExpr.TheVariants as step
-use Rattle.hk_parse.specs.BlockLines.{scope_of, param_text}
+use Rattle.hk_parse.specs.BlockLines.{scope_of}
 use Rattle.hk_parse.specs.Expressions.{Naming, set_pieces, num_pieces, cond_pieces}
+use Rattle.hk_parse.specs.Headers.{param_text}
 use Rattle.hk_parse.specs.LineTexts as line
 use Rattle.hk_parse.specs.LineTexts.{Begin, Property, Test, Step, End, param_texts, side_word, init_texts, step_texts, line_texts, HasForm}
 use Rattle.hk_parse.specs.Names.{Names}

@@ -9,7 +9,7 @@ use Rattle.hk_spec.specs.declared.expressions.Side.{Side}
 use Rattle.hk_spec.specs.declared.parts.PropDecl.{PropDecl}
 use Rattle.hk_spec.specs.declared.parts.StepExpr.{StepExpr}
 use Rattle.hk_text.specs.Lexemes.{IsWord}
-use Rattle.hk_parse.specs.Saying.{GoesOn}
+use Rattle.hk_parse.specs.BlockFaults.{GoesOn}
 use Rattle.hk_parse.specs.BlockLines.{Part, part_names, due, test_names, step_names, side_of, scope_of, MayStand, NamesStep, SmallInit, with_property, with_step, adds_property, adds_test, adds_step}
 use Rattle.hk_parse.specs.Expressions.{Naming, cond_pieces}
 use Rattle.hk_parse.specs.LineTexts.{Property, Test, Step, side_word, HasForm}

@@ -18,9 +18,10 @@ use Rattle.hk_spec.specs.declared.parts.Param.{Param}
 use Rattle.hk_spec.specs.declared.parts.PropDecl.{PropDecl}
 use Rattle.hk_spec.specs.declared.parts.StepExpr.{StepExpr}
 use Rattle.hk_text.specs.Lexemes.{IsWord}
-use Rattle.hk_parse.specs.Saying.{BeginsWith, GoesOn, Ends}
-use Rattle.hk_parse.specs.BlockLines.{Part, part_names, due, step_names, scope_of, param_names, BeginNameFault, BeginLimitFault, with_step, param_text}
+use Rattle.hk_parse.specs.BlockFaults.{BeginsWith, GoesOn, Ends}
+use Rattle.hk_parse.specs.BlockLines.{Part, part_names, due, step_names, scope_of, param_names, BeginNameFault, BeginLimitFault, with_step}
 use Rattle.hk_parse.specs.Expressions.{naming_of, names_of_properties}
+use Rattle.hk_parse.specs.Headers.{param_text}
 use Rattle.hk_parse.specs.LineTexts.{ParamText}
 use Rattle.hk_parse.specs.Pieces.{piece, tokens_of}
 use Rattle.hk_parse.specs.Printed.{first_line, property_line, step_lines, declaration_lines, rule_lines, spec_lines}

@@ -5,12 +5,12 @@ use Rattle.std.specs.Fmt.{decimal}
 use Rattle.std.specs.List.{join_by}
 use Rattle.std.proofs.lemmas.Grind.{flat_map-append}
 use Rattle.std.proofs.lemmas.List.{append_assoc}
-use Rattle.hk_text.specs.Sets.{members}
+use Rattle.hk_text.specs.Sets as hk_text
 use Rattle.hk_parse.specs.Expressions.{operation, call_of_two, membership}
 use Rattle.hk_parse.specs.NumTexts.{number_texts}
 use Rattle.hk_parse.specs.Pieces.{piece, tokens_of, around, braced, literal_pieces, signed_pieces}
 use Rattle.hk_parse.specs.SetTexts.{listed, in_parentheses}
-use Rattle.hk_parse.specs.Trees.{member_texts, is_negative, digits_of}
+use Rattle.hk_parse.specs.Trees.{members, member_texts, is_negative, digits_of}
 
 -- the tokens of pieces in a row are their tokens in a row
 pub tokens_append : (a b : List (List (List ℕ))) → tokens_of (a ++ b) ≡ tokens_of a ++ tokens_of b
@@ -71,9 +71,14 @@ braced_tokens : (values : List ℕ) → tokens_of (braced values) ≡ codes "{" 
 braced_tokens [] = refl
 braced_tokens (value ∷ values) = ap (λ xs. codes "{" ∷ xs) (closed_tokens (listed_tokens value values) (codes "}"))
 
+-- the values of a set
+pub members_same : (set : ℕ) → hk_text.members set ≡ members set
+unfolding hk_text.members
+members_same set = refl
+
 -- a set in braces
 pub literal_tokens : (set : ℕ) → HasTokens (literal_pieces set) (codes "{" ∷ (listed (member_texts set) ++ codes "}" ∷ []))
-literal_tokens set = record { are = braced_tokens (members set) }
+literal_tokens set = record { are = braced_tokens (hk_text.members set) ∙ ap (λ values. codes "{" ∷ (listed (map decimal values) ++ codes "}" ∷ [])) (members_same set) }
 
 -- a number
 pub signed_tokens : (n : ℤ) → HasTokens (signed_pieces n) (number_texts (is_negative n) (digits_of n))

@@ -90,7 +90,7 @@ more_numbers [] = tt
 more_numbers (value ∷ values) = (comma_piece, (number_piece value, more_numbers values))
 
 braced_are : (values : List ℕ) → ArePieces (braced values)
-braced_are [] = (are_beside 123 125 refl refl refl, tt)
+braced_are [] = (is_token Symbol refl, (is_token Symbol refl, tt))
 braced_are (value ∷ values) =
     (is_token Symbol refl, (number_piece value, pieces_append (flat_map (λ v. piece (codes ",") ++ piece (decimal v)) values) (piece (codes "}")) (more_numbers values) (is_token Symbol refl, tt)))
 

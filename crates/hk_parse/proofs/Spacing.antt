@@ -1,5 +1,5 @@
 -- Pieces as text, one after another.
-use Rattle.std.proofs.Common.{◌≡◌, ℕ, ◌<◌, ◌^◌, List, [], ◌∷◌, ◌++◌, codes, refl, sym, ap, ◌∙◌, arith, subst}
+use Rattle.std.proofs.Common.{◌≡◌, ℕ, List, [], ◌∷◌, ◌++◌, codes, refl, sym, ap, ◌∙◌, subst}
 use Rattle.std.specs.Fmt.{decimal}
 use Rattle.std.specs.List.{concat, flat_map, join_by}
 use Rattle.std.proofs.lemmas.Grind.{flat_map-append}
@@ -7,8 +7,7 @@ use Rattle.std.proofs.lemmas.List.{append-nil}
 use Rattle.hk_base.specs.Lists.{AppendsFront}
 use Rattle.hk_text.specs.Sets.{members, values_text}
 use Rattle.hk_text.proofs.Appending.{AppendsFront-first}
-use Rattle.hk_text.proofs.Members.{members_some, members_none}
-use Rattle.hk_parse.specs.Pieces.{spaced, piece, around, around_two, braced, literal_pieces}
+use Rattle.hk_parse.specs.Pieces.{spaced, piece, around, braced, literal_pieces}
 
 -- the text of pieces in a row is their texts in a row
 pub spaced_append : (a b : List (List (List ℕ))) → spaced (a ++ b) ≡ spaced a ++ spaced b
@@ -31,10 +30,6 @@ spaced_piece token = ap (λ xs. codes " " ++ xs) (append-nil (token ++ []) ∙ a
 pub spaced_around : (before inner after : List (List (List ℕ))) → spaced (around before inner after) ≡ around (spaced before) (spaced inner) (spaced after)
 spaced_around before inner after = spaced_append before (inner ++ after) ∙ ap (λ xs. spaced before ++ xs) (spaced_append inner after)
 
--- the text of two lists of pieces between others
-pub spaced_two : (before a between b after : List (List (List ℕ))) → spaced (around_two before a between b after) ≡ around_two (spaced before) (spaced a) (spaced between) (spaced b) (spaced after)
-spaced_two before a between b after = spaced_around before a (between ++ (b ++ after)) ∙ ap (λ xs. spaced before ++ (spaced a ++ xs)) (spaced_around between b after)
-
 spaced_more : (values : List ℕ) → spaced (flat_map (λ v. piece (codes ",") ++ piece (decimal v)) values) ≡ flat_map (λ v. codes " ," ++ (codes " " ++ decimal v)) values
 spaced_more [] = refl
 spaced_more (value ∷ values) =
@@ -47,16 +42,12 @@ spaced_values value values =
     ∙ ap (λ xs. xs ++ spaced (flat_map (λ v. piece (codes ",") ++ piece (decimal v)) values)) (spaced_piece (decimal value))
     ∙ ap (λ xs. (codes " " ++ decimal value) ++ xs) (spaced_more values)
 
--- the text of the empty set
-pub none_text : spaced (literal_pieces 0) ≡ codes " {}"
-none_text = ap (λ values. spaced (braced values)) members_none
-
--- the text of another set
-pub literal_text : (set : ℕ) → 0 < set → set < 2 ^ 128 → spaced (literal_pieces set) ≡ around (codes " {") (values_text (codes " ") (codes " ,") (members set)) (codes " }")
-literal_text set some fits = by (members set) refl
+-- the text of a set
+pub literal_text : (set : ℕ) → spaced (literal_pieces set) ≡ around (codes " {") (values_text (codes " ") (codes " ,") (members set)) (codes " }")
+literal_text set = by (members set)
   where
-    by : (values : List ℕ) → members set ≡ values → spaced (braced values) ≡ around (codes " {") (values_text (codes " ") (codes " ,") values) (codes " }")
-    by [] is = absurd (omega (arith, members_some set fits is))
-    by (value ∷ values) is =
+    by : (values : List ℕ) → spaced (braced values) ≡ around (codes " {") (values_text (codes " ") (codes " ,") values) (codes " }")
+    by [] = refl
+    by (value ∷ values) =
         spaced_around (piece (codes "{")) (join_by (λ v. piece (decimal v)) (piece (codes ",")) (value ∷ values)) (piece (codes "}"))
         ∙ ap (λ xs. around (codes " {") xs (codes " }")) (spaced_values value values)

@@ -37,9 +37,6 @@ apart index x y test = differ (ap (λ texts. get_or texts index []) (sym x ∙ y
 pub apart_none : {texts more : List (List ℕ)} {text : List ℕ} → texts ≡ [] → texts ≡ text ∷ more → ⊥
 apart_none x y = let none : [] ≡ _ ∷ _ = sym x ∙ y in cc
 
-pub no_texts : {texts more : List (List ℕ)} {text : List ℕ} → texts ≡ [] → texts ≡ text ∷ more → ⊥
-no_texts = apart_none
-
 -- a list of texts has one first text, and one rest
 pub same_first : {texts xs ys : List (List ℕ)} {x y : List ℕ} → texts ≡ x ∷ xs → texts ≡ y ∷ ys → x ≡ y
 same_first x y = ap (λ texts. get_or texts 0 []) (sym x ∙ y)

@@ -3,8 +3,10 @@ use Rattle.std.proofs.Common.{◌≡◌, ℕ, List, [], ◌∷◌, ◌++◌, map
 use Rattle.std.specs.Prelude.{codes}
 use Rattle.std.proofs.lemmas.List.{map-append}
 use Rattle.hk_spec.specs.Specifications.{Specification}
-use Rattle.hk_parse.specs.Saying.{BeginsWith, GoesOn, Ends, IsWhole}
-use Rattle.hk_parse.specs.BlockLines.{Part, param_text}
+use Rattle.hk_parse.specs.BlockFaults.{BeginsWith, GoesOn, Ends}
+use Rattle.hk_parse.specs.BlockLines.{Part}
+use Rattle.hk_parse.specs.Blocks.{IsWhole}
+use Rattle.hk_parse.specs.Headers.{param_text}
 use Rattle.hk_parse.specs.LineTexts.{Begin, End, line_texts}
 use Rattle.hk_parse.specs.Pieces.{piece, tokens_of}
 use Rattle.hk_parse.specs.Printed.{params_pieces, spec_lines}

@@ -5,7 +5,7 @@ use Rattle.hk_kinds.specs.declared.properties.Prop.{Prop}
 use Rattle.hk_kinds.specs.Shapes.{IsOfKind}
 use Rattle.hk_spec.specs.Names.{reserved_words, are_distinct}
 use Rattle.hk_spec.specs.Scopes.{Scope, is_good_cond}
-use Rattle.hk_spec.specs.Specifications.{kinds_of_properties, is_step}
+use Rattle.hk_spec.specs.Specifications.{Specification, kinds_of_properties, is_step}
 use Rattle.hk_spec.specs.declared.expressions.Cond.{Cond}
 use Rattle.hk_spec.specs.declared.expressions.Side.{Side}
 use Rattle.hk_spec.specs.declared.expressions.Side.TheVariants.{Down, Up}
@@ -123,16 +123,12 @@ with_step part e = if nat_lt (length part.down_step) (length part.down)
     then record part { down_step = part.down_step ++ e ∷ [] }
     else record part { up_step = part.up_step ++ e ∷ [] }
 
--- a parameter as it is written
-abbrev pub param_text : Param → ParamText
-param_text p = record { kind = p.kind; name = p.name }
-
 -- the first line begins a specification with its name and its parameters
 pub record Begins (name : List ℕ) (params : List ParamText) (part : Part) : Type 0 where
   pub free : BeginNameFault params → ⊥
   pub small : BeginLimitFault name params → ⊥
   pub declared : List Param
-  pub params_are : map param_text declared ≡ params
+  pub params_are : map (λ (p : Param). record { kind = p.kind; name = p.name }) declared ≡ params
   pub begun : part ≡ record { name = name; params = declared; down = []; up = []; test = None; down_step = []; up_step = [] }
 
 -- what a line adds: a property with its initial value; the test; the step of the property that is due
@@ -151,3 +147,7 @@ pub record IsGoodAfter (before : Part) (line : LineText) (after : Part) : Type 0
   pub named : LineNameFault before line → ⊥
   pub small : LineLimitFault before line → ⊥
   pub adds : Adds before line after
+
+-- the specification that its lines say, with this test
+abbrev pub whole_spec : Part → Cond → Specification
+whole_spec part test = record { name = part.name; params = part.params; down = part.down; up = part.up; test = test; down_step = part.down_step; up_step = part.up_step }

@@ -36,8 +36,7 @@ signed_pieces (negsuc n) = piece (codes "-") ++ piece (decimal (suc n))
 
 -- values in braces, with commas between them
 abbrev pub braced : List ℕ → List (List (List ℕ))
-braced [] = (codes "{" ∷ codes "}" ∷ []) ∷ []
-braced (value ∷ values) = around (piece (codes "{")) (join_by (λ v. piece (decimal v)) (piece (codes ",")) (value ∷ values)) (piece (codes "}"))
+braced values = around (piece (codes "{")) (join_by (λ v. piece (decimal v)) (piece (codes ",")) values) (piece (codes "}"))
 
 -- a set: its values in braces, ascending
 abbrev pub literal_pieces : ℕ → List (List (List ℕ))

@@ -1,6 +1,8 @@
 -- How an expression is written: with the names of what it uses.
-use Rattle.std.specs.Prelude.{ℕ, suc, ℤ, pos, negsuc, Bool, true, false, List, [], map, slice_get, Option, None, Some, codes}
+use Rattle.std.specs.Prelude.{ℕ, suc, ℤ, pos, negsuc, Bool, true, false, ◌==◌, List, [], filter, map, slice_get, Option, None, Some, codes}
 use Rattle.std.specs.Fmt.{decimal}
+use Rattle.std.specs.Int.{bit_at}
+use Rattle.std.specs.List.{range_with_len}
 use Rattle.hk_spec.specs.declared.expressions.Side.{Side}
 use Rattle.hk_spec.specs.declared.expressions.Side.TheVariants.{Down, Up}
 use Rattle.hk_spec.specs.declared.expressions.NumExpr.{NumExpr}
@@ -18,7 +20,6 @@ use Rattle.hk_spec.specs.declared.parts.StepExpr.{StepExpr}
 use Rattle.hk_spec.specs.declared.parts.StepExpr.TheVariants as step
 use Rattle.hk_kinds.specs.declared.properties.Prop.{Prop}
 use Rattle.hk_kinds.specs.declared.properties.Prop.TheVariants as property
-use Rattle.hk_text.specs.Sets.{members}
 use Rattle.hk_parse.specs.LineTexts.{InitText, Single, Pair, Values, StepText, ToNumber, ToPair, ToSet}
 use Rattle.hk_parse.specs.SetTexts as set
 use Rattle.hk_parse.specs.SetTexts.{SetText}
@@ -27,6 +28,10 @@ use Rattle.hk_parse.specs.NumTexts.{NumText}
 use Rattle.hk_parse.specs.CondTexts as cond
 use Rattle.hk_parse.specs.CondTexts.{CondText}
 use Rattle.hk_parse.specs.Names.{Names}
+
+-- the values of a set, rising
+abbrev pub members : ℕ → List ℕ
+members set = filter (λ value. bit_at set value == 1) (range_with_len 0 128)
 
 -- whether a number is written with `-` in front
 abbrev pub is_negative : ℤ → Bool

@@ -35,12 +35,10 @@ pub fn print_literal(out: &mut Bytes, set: u128) -> Result<(), AllocError>
     ensures ok { OnOk result (out.new ≡ out.old ++ spaced (literal_pieces set)) }
     ensures err { OnErr result (AppendsFront out.old out.new (spaced (literal_pieces set))) }
 {
-    if set == 0 {
-        return out.push_all(b" {}");
-    }
     print_values(out, set)
 }
 
+/// Appends the values of a set in braces.
 fn print_values(out: &mut Bytes, set: u128) -> Result<(), AllocError>
     ensures ok { OnOk result (out.new ≡ out.old ++ around (codes " {") (values_text (codes " ") (codes " ,") (members set)) (codes " }")) }
     ensures err { OnErr result (AppendsFront out.old out.new (around (codes " {") (values_text (codes " ") (codes " ,") (members set)) (codes " }"))) }

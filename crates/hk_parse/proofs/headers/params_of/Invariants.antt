@@ -1,0 +1,15 @@
+use Rattle.std.proofs.Common.{All, length, map}
+use Rattle.hk_text.specs.Texts.{texts_of}
+use Rattle.hk_parse.specs.Headers.{plain_param}
+use Rattle.hk_parse.specs.Reads.{IsTokenIn}
+use Rattle.hk_parse.proofs.Parameters.{ParamsSoFar}
+use Rattle.hk_parse.proofs.headers.params_of.Given as goal
+
+abbrev pub invariant-params : goal.invariant-params
+invariant-params l = record {
+  tokens : All (IsTokenIn l.line) l.rest;
+  reads : ParamsSoFar (texts_of l.line l.tokens) (map plain_param l.params) (texts_of l.line l.rest);
+}
+
+abbrev pub decreases-params : goal.decreases-params
+decreases-params l = length (texts_of l.line l.rest)

@@ -1,0 +1,185 @@
+//! The lines of a specification after the first.
+
+ghost use Rattle.std.specs.Prelude.{◌≡◌, ◌∷◌, All, IfOk, IfErr, IfSome, OnOk, OnErr, codes};
+ghost use Rattle.hk_kinds.specs.Shapes.{IsOfKind};
+ghost use Rattle.hk_text.specs.Lexemes.{IsWord};
+ghost use Rattle.hk_text.specs.Texts.{texts_of};
+ghost use Rattle.hk_parse.specs.BlockFaults.{GoesOn, IsAdded, IsDeclared, IsLineFault, IsPropertyFault, IsTestFault};
+ghost use Rattle.hk_parse.specs.Blocks.{AwaitsProperty};
+ghost use Rattle.hk_parse.specs.LineTexts.{side_word};
+ghost use Rattle.hk_parse.specs.Reads.{IsFew, IsTokenIn, ReadsCond};
+
+use crate::blocks::Block;
+use crate::expressions::read_cond;
+use crate::faults::BlockFault;
+use crate::flaws::Flaw;
+use crate::headers::{bytes_of, is_only};
+use crate::limits::NAME_BYTES;
+use crate::names::Names;
+use crate::properties::{PropertyWords, property_of};
+use crate::steps::step_of;
+use crate::tokens::after_text;
+use hk_spec::{Cond, PropDecl, Side};
+use hk_text::Token;
+use std::alloc::Global;
+
+impl Block {
+    /// Adds what the next line says: true where it is the end, which adds nothing. An error tells
+    /// why the line is bad, and leaves all as it was.
+    pub fn add(&mut self, alloc: Global, line: &[u8], tokens: &[Token]) -> Result<bool, BlockFault>
+        requires { All (IsTokenIn line.now) tokens.now }
+        ensures ok { IfOk result (IsAdded self.old (texts_of line.now tokens.now) self.new) }
+        ensures err { IfErr result (IsLineFault self.old (texts_of line.now tokens.now)) }
+        ensures unchanged { OnErr result (self.new ≡ self.old) }
+    {
+        if let Some(rest) = after_text(line, tokens, b"down") {
+            self.add_property(alloc, Side::Down, line, rest)?;
+            return Ok(false);
+        }
+        if let Some(rest) = after_text(line, tokens, b"up") {
+            self.add_property(alloc, Side::Up, line, rest)?;
+            return Ok(false);
+        }
+        if let Some(rest) = after_text(line, tokens, b"test") {
+            self.add_test(alloc, line, rest)?;
+            return Ok(false);
+        }
+        if let Some(rest) = after_text(line, tokens, b"step") {
+            self.add_step(alloc, line, rest)?;
+            return Ok(false);
+        }
+        if !is_only(line, tokens, b"end") {
+            return Err(BlockFault::Syntax);
+        }
+        if !self.awaits_end() {
+            return Err(BlockFault::Syntax);
+        }
+        Ok(true)
+    }
+
+    /// Adds the property that the tokens say after the word of its side.
+    fn add_property(
+        &mut self,
+        alloc: Global,
+        side: Side,
+        line: &[u8],
+        tokens: &[Token],
+    ) -> Result<(), BlockFault>
+        requires { All (IsTokenIn line.now) tokens.now }
+        ensures ok { OnOk result (GoesOn self.old (side_word side ∷ texts_of line.now tokens.now) self.new) }
+        ensures err { IfErr result (IsLineFault self.old (side_word side ∷ texts_of line.now tokens.now)) }
+        ensures unchanged { OnErr result (self.new ≡ self.old) }
+    {
+        if !self.awaits_property(side) {
+            return Err(BlockFault::Syntax);
+        }
+        let Some(property) = property_of(line, tokens) else {
+            return Err(BlockFault::Syntax);
+        };
+        self.declare_property(alloc, side, property)
+    }
+
+    /// Adds a property that was read.
+    fn declare_property(
+        &mut self,
+        alloc: Global,
+        side: Side,
+        property: PropertyWords<'_>,
+    ) -> Result<(), BlockFault>
+        requires awaited { AwaitsProperty self.old side }
+        requires word { IsWord property.name.now }
+        requires kind { IfSome property.init (IsOfKind property.kind) }
+        ensures ok { OnOk result (IsDeclared self.old side property.entry.name.now property.entry.kind property.entry.init self.new) }
+        ensures err { IfErr result (IsPropertyFault self.old side property.entry.name.now property.entry.init) }
+        ensures unchanged { OnErr result (self.new ≡ self.old) }
+    {
+        if self.is_taken(property.name) {
+            return Err(BlockFault::Name);
+        }
+        if property.name.len() > NAME_BYTES {
+            return Err(BlockFault::Limit);
+        }
+        if self.is_full(side) {
+            return Err(BlockFault::Limit);
+        }
+        let Some(init) = property.init else {
+            return Err(BlockFault::Limit);
+        };
+        let Ok(name) = bytes_of(alloc, property.name) else {
+            return Err(BlockFault::Memory);
+        };
+        let declared = PropDecl {
+            name,
+            kind: property.kind,
+            init,
+        };
+        match self.push_property(side, declared) {
+            Ok(()) => Ok(()),
+            Err(_) => Err(BlockFault::Memory),
+        }
+    }
+
+    /// Adds the test that the tokens say after the word `test`.
+    fn add_test(&mut self, alloc: Global, line: &[u8], tokens: &[Token]) -> Result<(), BlockFault>
+        requires { All (IsTokenIn line.now) tokens.now }
+        ensures ok { OnOk result (GoesOn self.old (codes "test" ∷ texts_of line.now tokens.now) self.new) }
+        ensures err { IfErr result (IsLineFault self.old (codes "test" ∷ texts_of line.now tokens.now)) }
+        ensures unchanged { OnErr result (self.new ≡ self.old) }
+    {
+        if !self.awaits_test() {
+            return Err(BlockFault::Syntax);
+        }
+        let read = read_test(alloc, line, tokens, &self.test_names());
+        match read {
+            Err(fault) => Err(fault),
+            Ok(test) => {
+                self.set_test(test);
+                Ok(())
+            }
+        }
+    }
+
+    /// Adds the step that the tokens say after the word `step`.
+    fn add_step(&mut self, alloc: Global, line: &[u8], tokens: &[Token]) -> Result<(), BlockFault>
+        requires { All (IsTokenIn line.now) tokens.now }
+        ensures ok { OnOk result (GoesOn self.old (codes "step" ∷ texts_of line.now tokens.now) self.new) }
+        ensures err { IfErr result (IsLineFault self.old (codes "step" ∷ texts_of line.now tokens.now)) }
+        ensures unchanged { OnErr result (self.new ≡ self.old) }
+    {
+        if self.awaits_test() {
+            return Err(BlockFault::Syntax);
+        }
+        let Some(property) = self.due() else {
+            return Err(BlockFault::Syntax);
+        };
+        let read = step_of(alloc, line, tokens, property, &self.step_names());
+        match read {
+            Err(fault) => Err(fault),
+            Ok(step) => match self.push_step(step) {
+                Ok(()) => Ok(()),
+                Err(_) => Err(BlockFault::Memory),
+            },
+        }
+    }
+}
+
+/// The test that the tokens say.
+fn read_test(
+    alloc: Global,
+    line: &[u8],
+    tokens: &[Token],
+    names: &Names<'_>,
+) -> Result<Cond, BlockFault>
+    requires tokens { All (IsTokenIn line.now) tokens.now }
+    requires few { IsFew names.now }
+    ensures ok { IfOk result (λ test. ReadsCond names.now (texts_of line.now tokens.now) (Ok test)) }
+    ensures err { IfErr result (IsTestFault names.now (texts_of line.now tokens.now)) }
+{
+    match read_cond(alloc, line, tokens, names) {
+        Err(_) => Err(BlockFault::Memory),
+        Ok(None) => Err(BlockFault::Syntax),
+        Ok(Some(Err(Flaw::Name))) => Err(BlockFault::Name),
+        Ok(Some(Err(Flaw::Limit))) => Err(BlockFault::Limit),
+        Ok(Some(Ok(test))) => Ok(test),
+    }
+}
