@@ -23,11 +23,11 @@ same_small n limit small below = ⊎_elim (λ less. min-eq_left (omega (arith, l
     over is = omega (arith, is, small, below)
 
 -- a number within a limit is the same when it is capped
-kept_small : (n limit : ℕ) → n ≤ limit → limit < CAP → capped n ≡ n
+pub kept_small : (n limit : ℕ) → n ≤ limit → limit < CAP → capped n ≡ n
 kept_small n limit small below = min-eq_left (omega (arith, small, below))
 
 -- the same for the size of a number with a sign: its cap is within a limit below the cap, or the number is
-same_signed : (z : ℤ) (limit : ℕ) → limit < CAP → IsWithin (pos limit) (capped_signed z) → capped_signed z ≡ z
+pub same_signed : (z : ℤ) (limit : ℕ) → limit < CAP → IsWithin (pos limit) (capped_signed z) → capped_signed z ≡ z
 same_signed (pos n) limit below within = ap pos (same_small n limit (let high = within.below in omega (arith, high, ints)) below)
 same_signed (negsuc n) limit below within = ap (λ m. neg_ℤ (pos m)) (same_small (suc n) limit (small (capped (suc n)) within.above) below)
   where
@@ -35,19 +35,19 @@ same_signed (negsuc n) limit below within = ap (λ m. neg_ℤ (pos m)) (same_sma
     small zero low = omega arith
     small (suc m) low = omega (arith, low, ints)
 
-kept_signed : (z : ℤ) (limit : ℕ) → limit < CAP → IsWithin (pos limit) z → capped_signed z ≡ z
+pub kept_signed : (z : ℤ) (limit : ℕ) → limit < CAP → IsWithin (pos limit) z → capped_signed z ≡ z
 kept_signed (pos n) limit below within = ap pos (kept_small n limit (let high = within.below in omega (arith, high, ints)) below)
 kept_signed (negsuc n) limit below within = ap (λ m. neg_ℤ (pos m)) (kept_small (suc n) limit (let low = within.above in omega (arith, low, ints)) below)
 
 -- an element with a property, among what a function makes of the elements
-any_map : {X Y : Type 0} (Q : X → Type 0) (P : Y → Type 0) (f : X → Y) → ((x : X) → Q x → P (f x)) → (xs : List X) → Any Q xs → Any P (map f xs)
+pub any_map : {X Y : Type 0} (Q : X → Type 0) (P : Y → Type 0) (f : X → Y) → ((x : X) → Q x → P (f x)) → (xs : List X) → Any Q xs → Any P (map f xs)
 any_map Q P f gives xs (k, x, within, at, q) =
     let long : length (map f xs) ≡ length xs = length-map xs f in
     let there : get_or (map f xs) k (f x) ≡ f x = get_or-map f xs k x (f x) within ∙ ap f at in
     (k, f x, omega (arith, within, long), there, gives x q)
 
 -- and back
-any_from_map : {X Y : Type 0} (P : Y → Type 0) (Q : X → Type 0) (f : X → Y) → ((x : X) → P (f x) → Q x) → (xs : List X) → Any P (map f xs) → Any Q xs
+pub any_from_map : {X Y : Type 0} (P : Y → Type 0) (Q : X → Type 0) (f : X → Y) → ((x : X) → P (f x) → Q x) → (xs : List X) → Any P (map f xs) → Any Q xs
 any_from_map P Q f gives [] some = absurd (any_nil P some)
 any_from_map P Q f gives (x ∷ xs) some = ⊎_elim
     (λ p. any_first Q x xs (gives x p))
@@ -193,7 +193,7 @@ limit_whole before (Total terms least most) (large_total_coef some) = large_tota
 limit_whole before (Objective terms) (large_coef some) = large_coef (some_whole terms some)
 
 -- values within the limits are the same when they are capped
-same_set : (set : List Values) → All (λ values. values.first ≤ values.last) (map capped_values set) → All (λ values. values.last < VALUES) (map capped_values set) → map capped_values set ≡ set
+pub same_set : (set : List Values) → All (λ values. values.first ≤ values.last) (map capped_values set) → All (λ values. values.last < VALUES) (map capped_values set) → map capped_values set ≡ set
 same_set [] ordered within = refl
 same_set (values ∷ set) ordered within =
     let rest = same_set set (All-tail (λ values. values.first ≤ values.last) (capped_values values) (map capped_values set) ordered) (All-tail (λ values. values.last < VALUES) (capped_values values) (map capped_values set) within) in

@@ -1,26 +1,20 @@
 -- The first fault of a line: each kind's is built from what is known of the line, and a line has one.
-use Rattle.std.proofs.Common.{◌≡◌, ◌≢◌, ◌≤◌, ◌==◌, ℕ, suc, zero, true, false, List, [], ◌∷◌, length, map, Option, None, Some, IsSome, is_some, Contains, refl, ap, sym, ◌∙◌, subst, true≢false, arith, codes}
+use Rattle.std.proofs.Common.{◌≡◌, ◌≢◌, ◌≤◌, ◌==◌, ℕ, suc, zero, true, List, [], length, Option, None, Some, IsSome, is_some, refl, ap, sym, ◌∙◌, subst, arith}
 use Rattle.std.proofs.lemmas.Bool.Decides.{nat_tests}
 use Rattle.std.proofs.lemmas.List.{nil_from_length, length-map}
-use Rattle.std.specs.List.Sorted.{IsStrictlyIncreasing}
-use Rattle.std.specs.Set.{is_member}
-use Rattle.std.specs.Str.{bytes_eq}
-use Rattle.std.proofs.lemmas.Map.Made.{is_member-Decides}
-use Rattle.std.proofs.lemmas.Slice.Eq.{bytes_eq-Decides}
 use Rattle.hk_text.specs.declared.tokenizer.Token.{Token}
 use Rattle.hk_text.specs.Texts.{text_of, texts_of}
 use Rattle.hk_text.specs.Tokens.{AreTokensOf, IsBadByte, HasTexts}
-use Rattle.hk_text.proofs.Reading.{tokens_no_bad_byte}
 use Rattle.hk_model.specs.declared.refusal.RefusalKind.{RefusalKind}
 use Rattle.hk_model.specs.declared.refusal.RefusalKind.TheVariants.{Text, Later, Syntax, Name, Limit, Scope, Unfinished}
-use Rattle.hk_model.specs.LineFaults.{IsNameFault, declared_twice, not_declared, second_objective, IsLimitFault, long_name, large_value, turned_range, no_value, many_variables, many_differ, many_totals, large_least, large_most, large_total_coef, large_coef, IsScopeFault, IsFault, fault_text, fault_later, fault_syntax, fault_name, fault_limit, fault_scope, rank, IsFirstFault}
 use Rattle.hk_model.specs.Faults.{BeginsLater}
-use Rattle.hk_model.specs.Models.{IsGoodLine, good_empty, IsBadLine, IsLaterLine, later_words}
+use Rattle.hk_model.specs.LineFaults.{SayNothingAfter, IsNameFaultOf, IsLimitFaultOf, IsFault, fault_text, fault_later, fault_syntax, fault_name, fault_limit, fault_scope, rank, IsFirstFault}
+use Rattle.hk_model.specs.Models.{Declared, IsGoodLine, good_empty, IsBadLine, IsLaterLine}
 use Rattle.hk_model.specs.Problems.{PlainProblem}
-use Rattle.hk_model.specs.Statements.{Statement, Header, Variable, Distinct, Total, Objective, Says, says_header, says_variable, says_distinct, says_total, says_objective, MayStand, Declares}
-use Rattle.hk_model.proofs.Elements.{any_nil}
-use Rattle.hk_model.proofs.Effects.{effect_stands, named_no_effect, limited_no_effect, unordered_no_effect}
-use Rattle.hk_model.proofs.Grammar.{same_texts, says_one, says_nothing, bad_by_texts, bad_without_texts}
+use Rattle.hk_text.proofs.Reading.{same_texts, bad_byte_no_texts}
+use Rattle.hk_model.proofs.Meanings.{Meaning, Means, nothing_means, say_nothing_none, later_means_nothing}
+use Rattle.hk_model.proofs.MeantEffects.{started_problem, good_texts, good_meant}
+use Rattle.hk_model.proofs.MeantFaults.{NameFaultIn, LimitFaultIn, ScopeFaultIn, name_meant, limit_meant, scope_meant, meant_name, meant_limit, meant_scope, fault_here, named_nothing, limited_nothing, unordered_nothing}
 
 -- the kind at a place in the order of kinds
 kind_at : ℕ → RefusalKind
@@ -43,36 +37,27 @@ kind_at_rank Scope = refl
 kind_at_rank Unfinished = refl
 
 -- a line has one first fault
-pub first_fault_one : {before : Option PlainProblem} {line : List ℕ} {k j : RefusalKind} → IsFirstFault before line k → IsFirstFault before line j → k ≡ j
+pub first_fault_one : {before : Declared} {line : List ℕ} {k j : RefusalKind} → IsFirstFault before line k → IsFirstFault before line j → k ≡ j
 first_fault_one {k = k} {j = j} x y =
     let there = x.first j y.fault in
     let back = y.first k x.fault in
     let same : rank k ≡ rank j = omega (arith, there, back) in
     sym (kind_at_rank k) ∙ ap kind_at same ∙ kind_at_rank j
 
--- a line with a bad byte has no texts
-pub bad_byte_no_texts : {line : List ℕ} {column byte : ℕ} {texts : List (List ℕ)} → IsBadByte line column byte → HasTexts line texts → ⊥
-bad_byte_no_texts {line = line} {column = column} {byte = byte} bad has = tokens_no_bad_byte line has.tokens column byte has.split bad
-
 -- a length that is tested to be 0 is 0
 pub zero_from_test : (n : ℕ) → (n == 0) ≡ true → n ≡ 0
 zero_from_test n is = grind (arith, nat_tests)
 
--- what is declared after the header
-started_problem : (before : Option PlainProblem) → IsSome before → (problem : PlainProblem) × (before ≡ Some problem)
-started_problem None is = absurd (true≢false (sym is))
-started_problem (Some problem) is = (problem, refl)
-
-module _ {before : Option PlainProblem} {line : List ℕ} {texts : List (List ℕ)} (has : HasTexts line texts) where
-  -- after the header, a line whose texts begin a statement which isn't read yet is Later
-  pub later_line : IsSome before → BeginsLater texts → IsLaterLine before line
-  later_line some begins =
-      let start = started_problem before some in
-      record { problem = start.0; started = start.1; word = begins.word; more = begins.more; has = subst (HasTexts line) begins.parts has; later = begins.later }
+module _ {before : Declared} {line : List ℕ} {texts : List (List ℕ)} (has : HasTexts line texts) where
+  -- after the header and outside of a specification, a line whose texts begin a statement which isn't read yet is Later
+  pub later_line : IsSome before.problem → before.block ≡ None → BeginsLater texts → IsLaterLine before line
+  later_line some out begins =
+      let start = started_problem before.problem some in
+      record { problem = start.0; started = start.1; outside = out; word = begins.word; more = begins.more; has = subst (HasTexts line) begins.parts has; later = begins.later }
 
   -- and no other line is
-  pub later_begins : IsLaterLine before line → IsSome before × BeginsLater texts
-  later_begins later = (ap is_some later.started, record { word = later.word; more = later.more; parts = same_texts has later.has; later = later.later })
+  pub later_begins : IsLaterLine before line → IsSome before.problem × (before.block ≡ None) × BeginsLater texts
+  later_begins later = (ap is_some later.started, later.outside, record { word = later.word; more = later.more; parts = same_texts has later.has; later = later.later })
 
 module _ (line : List ℕ) (tokens : List Token) (split : AreTokensOf line tokens) where
   -- a line has the texts of its tokens
@@ -80,90 +65,27 @@ module _ (line : List ℕ) (tokens : List Token) (split : AreTokensOf line token
   has_texts = record { tokens = tokens; split = split; texts_are = refl }
 
   -- a line without tokens has no effect
-  pub empty_line : (before : Option PlainProblem) → length tokens ≡ 0 → IsGoodLine before line before
+  pub empty_line : (before : Declared) → length tokens ≡ 0 → IsGoodLine before line before
   empty_line before none = good_empty (record { tokens = tokens; split = split; texts_are = ap (texts_of line) (nil_from_length tokens none) })
 
   -- a line with tokens has texts
   pub texts_some : length tokens ≢ 0 → texts_of line tokens ≢ []
   texts_some some none = some (sym (length-map tokens (text_of line)) ∙ ap length none)
 
--- a word that is none of the words of statements which aren't read yet
-no_later_word : (word : List ℕ) → is_member bytes_eq later_words word ≡ false → Contains later_words word → ⊥
-no_later_word word none is = true≢false (sym ((is_member-Decides bytes_eq-Decides later_words word).1 is) ∙ none)
+-- texts that mean something are some
+pub means_some : {before : Declared} {texts : List (List ℕ)} {m : Meaning} → Means before texts m → texts ≢ []
+means_some {before = before} {m = m} means none = nothing_means (subst (λ texts. Means before texts m) none means)
 
--- texts whose first is the word of a statement which isn't read yet say none of those that are
-pub later_says_nothing : {word : List ℕ} {more : List (List ℕ)} {s : Statement} → Contains later_words word → Says (word ∷ more) s → ⊥
-later_says_nothing {word = word} is (says_header x) =
-    let first : word ≡ codes "hkm" = cc in
-    no_later_word (codes "hkm") refl (subst (Contains later_words) first is)
-later_says_nothing {word = word} is (says_variable x named set) =
-    let first : word ≡ codes "var" = cc in
-    no_later_word (codes "var") refl (subst (Contains later_words) first is)
-later_says_nothing {word = word} is (says_distinct x words) =
-    let first : word ≡ codes "alldifferent" = cc in
-    no_later_word (codes "alldifferent") refl (subst (Contains later_words) first is)
-later_says_nothing {word = word} is (says_total x terms bounds) =
-    let first : word ≡ codes "sum" = cc in
-    no_later_word (codes "sum") refl (subst (Contains later_words) first is)
-later_says_nothing {word = word} is (says_objective x terms) =
-    let first : word ≡ codes "minimize" = cc in
-    no_later_word (codes "minimize") refl (subst (Contains later_words) first is)
-
--- texts that say a statement are some
-pub says_some : {texts : List (List ℕ)} {s : Statement} → Says texts s → texts ≢ []
-says_some {s = s} says none = says_nothing (subst (λ texts. Says texts s) none says)
-
--- a line whose texts say a statement says no other
-pub line_says_one : {line : List ℕ} {texts texts' : List (List ℕ)} {s t : Statement} → HasTexts line texts → Says texts s → HasTexts line texts' → Says texts' t → t ≡ s
-line_says_one {s = s} {t = t} has says has' says' = says_one (subst (λ all. Says all t) (same_texts has' has) says') says
-
--- a line whose texts say a statement is not Later
-pub said_not_later : {before : Option PlainProblem} {line : List ℕ} {texts : List (List ℕ)} {s : Statement} → HasTexts line texts → Says texts s → IsLaterLine before line → ⊥
-said_not_later {s = s} has says later = later_says_nothing later.later (subst (λ all. Says all s) (same_texts has later.has) says)
-
--- a statement with a fault of a name may stand after the header
-named_stands : {problem : PlainProblem} {s : Statement} → IsNameFault problem s → MayStand (Some problem) s
-named_stands (declared_twice x) = tt
-named_stands (not_declared {statement = Header} x) = absurd (any_nil _ x)
-named_stands (not_declared {statement = Variable name set} x) = tt
-named_stands (not_declared {statement = Distinct names} x) = tt
-named_stands (not_declared {statement = Total terms least most} x) = tt
-named_stands (not_declared {statement = Objective terms} x) = tt
-named_stands (second_objective x) = tt
-
--- so may one with a fault of a limit
-limited_stands : {problem : PlainProblem} {s : Statement} → IsLimitFault problem s → MayStand (Some problem) s
-limited_stands (long_name x) = tt
-limited_stands (large_value x) = tt
-limited_stands (turned_range x) = tt
-limited_stands no_value = tt
-limited_stands (many_variables x) = tt
-limited_stands (many_differ x) = tt
-limited_stands (many_totals x) = tt
-limited_stands (large_least x) = tt
-limited_stands (large_most x) = tt
-limited_stands (large_total_coef x) = tt
-limited_stands (large_coef x) = tt
-
--- no places stand in order
-no_places_rise : (scope : List ℕ) → [] ≡ map Some scope → (IsStrictlyIncreasing scope → ⊥) → ⊥
-no_places_rise [] same falls = falls (λ k below. absurd (omega arith))
-no_places_rise (place ∷ scope) same falls = cc
-
--- so may one with a fault of its scope
-unordered_stands : {problem : PlainProblem} (s : Statement) → IsScopeFault problem s → MayStand (Some problem) s
-unordered_stands Header x = absurd (no_places_rise x.scope x.places x.falls)
-unordered_stands (Variable name set) x = tt
-unordered_stands (Distinct names) x = tt
-unordered_stands (Total terms least most) x = tt
-unordered_stands (Objective terms) x = tt
+-- a line whose texts mean something is not Later
+pub meant_not_later : {before : Declared} {line : List ℕ} {texts : List (List ℕ)} {m : Meaning} → HasTexts line texts → Means before texts m → IsLaterLine before line → ⊥
+meant_not_later {before = before} {m = m} has means later = later_means_nothing later.outside later.later (subst (λ texts. Means before texts m) (same_texts has later.has) means)
 
 -- a line with a bad byte has the fault Text first
-pub first_text : {before : Option PlainProblem} {line : List ℕ} {column byte : ℕ} → IsBadByte line column byte → IsFirstFault before line Text
+pub first_text : {before : Declared} {line : List ℕ} {column byte : ℕ} → IsBadByte line column byte → IsFirstFault before line Text
 first_text bad = record { fault = fault_text bad; first = λ other fault. omega arith }
 
 -- a line that begins a statement which isn't read yet has the fault Later first
-pub first_later : {before : Option PlainProblem} {line : List ℕ} → IsLaterLine before line → IsFirstFault before line Later
+pub first_later : {before : Declared} {line : List ℕ} → IsLaterLine before line → IsFirstFault before line Later
 first_later {before = before} {line = line} later = record { fault = fault_later later; first = first }
   where
     first : (other : RefusalKind) → IsFault before line other → rank Later ≤ rank other
@@ -176,8 +98,7 @@ first_later {before = before} {line = line} later = record { fault = fault_later
     first Unfinished fault = omega arith
 
 -- a line with tokens that say nothing which may stand there has the fault Syntax first, where it is not Later
-pub first_syntax : {before : Option PlainProblem} {line : List ℕ} {texts : List (List ℕ)} → HasTexts line texts → texts ≢ []
-    → ((s : Statement) → Says texts s → MayStand before s → ⊥) → (IsLaterLine before line → ⊥) → IsFirstFault before line Syntax
+pub first_syntax : {before : Declared} {line : List ℕ} {texts : List (List ℕ)} → HasTexts line texts → texts ≢ [] → SayNothingAfter before texts → (IsLaterLine before line → ⊥) → IsFirstFault before line Syntax
 first_syntax {before = before} {line = line} has some none no_later = record { fault = fault_syntax has some none; first = first }
   where
     first : (other : RefusalKind) → IsFault before line other → rank Syntax ≤ rank other
@@ -189,82 +110,81 @@ first_syntax {before = before} {line = line} has some none no_later = record { f
     first Scope fault = omega arith
     first Unfinished fault = omega arith
 
-module _ {before : Option PlainProblem} {line : List ℕ} {texts : List (List ℕ)} {s : Statement} {problem : PlainProblem} (has : HasTexts line texts) (says : Says texts s) (started : before ≡ Some problem) where
-  -- a line that says a statement which may stand there has none of the first three faults
-  no_early : MayStand (Some problem) s → (other : RefusalKind) → IsFault before line other → 3 ≤ rank other
-  no_early stands Text (fault_text bad) = absurd (bad_byte_no_texts bad has)
-  no_early stands Later (fault_later later) = absurd (said_not_later has says later)
-  no_early stands Syntax (fault_syntax has' some none) =
-      absurd (none s (subst (λ all. Says all s) (same_texts has has') says) (subst (λ b. MayStand b s) (sym started) stands))
-  no_early stands Name fault = omega arith
-  no_early stands Limit fault = omega arith
-  no_early stands Scope fault = omega arith
-  no_early stands Unfinished fault = omega arith
+-- the one problem that is declared
+same_problem : {found : Option PlainProblem} {p q : PlainProblem} → found ≡ Some p → found ≡ Some q → p ≡ q
+same_problem x y = cc
 
-  -- what is declared before the line is known
-  same_problem : {other : PlainProblem} → before ≡ Some other → other ≡ problem
-  same_problem started' = cc
+module _ {before : Declared} {line : List ℕ} {texts : List (List ℕ)} {problem : PlainProblem} {m : Meaning} (has : HasTexts line texts) (started : before.problem ≡ Some problem) (means : Means before texts m) where
+  -- a line that means something which may stand there has none of the first three faults
+  no_early : (other : RefusalKind) → IsFault before line other → 3 ≤ rank other
+  no_early Text (fault_text bad) = absurd (bad_byte_no_texts bad has)
+  no_early Later (fault_later later) = absurd (meant_not_later has means later)
+  no_early Syntax (fault_syntax has' some none) = absurd (say_nothing_none none (subst (λ all. Means before all m) (same_texts has has') means))
+  no_early Name fault = omega arith
+  no_early Limit fault = omega arith
+  no_early Scope fault = omega arith
+  no_early Unfinished fault = omega arith
 
-  -- a fault of a name is one of the line's statement
-  name_fault_here : IsFault before line Name → IsNameFault problem s
-  name_fault_here (fault_name {statement = t} {problem = other} has' says' started' fault) =
-      subst (λ p. IsNameFault p s) (same_problem started') (subst (IsNameFault other) (line_says_one has says has' says') fault)
+  -- a fault of a name is one of the line's meaning
+  name_fault_here : IsFault before line Name → NameFaultIn before problem m
+  name_fault_here (fault_name {texts = all} {problem = other} has' started' fault) =
+      let here = subst (λ p. IsNameFaultOf before p all) (same_problem started' started) fault in
+      fault_here means (name_meant started (subst (IsNameFaultOf before problem) (same_texts has' has) here))
 
-  -- a fault of a limit is one of the line's statement
-  limit_fault_here : IsFault before line Limit → IsLimitFault problem s
-  limit_fault_here (fault_limit {statement = t} {problem = other} has' says' started' fault) =
-      subst (λ p. IsLimitFault p s) (same_problem started') (subst (IsLimitFault other) (line_says_one has says has' says') fault)
+  -- a fault of a limit is one of the line's meaning
+  limit_fault_here : IsFault before line Limit → LimitFaultIn before problem m
+  limit_fault_here (fault_limit {texts = all} {problem = other} has' started' fault) =
+      let here = subst (λ p. IsLimitFaultOf before p all) (same_problem started' started) fault in
+      fault_here means (limit_meant started (subst (IsLimitFaultOf before problem) (same_texts has' has) here))
 
-  -- a line that says a statement with a fault of a name has the fault Name first
-  pub first_name : IsNameFault problem s → IsFirstFault before line Name
-  first_name fault = record { fault = fault_name has says started fault; first = no_early (named_stands fault) }
+  -- a line that means something with a fault of a name has the fault Name first
+  pub first_name : NameFaultIn before problem m → IsFirstFault before line Name
+  first_name fault = record { fault = fault_name has started (meant_name means fault); first = no_early }
 
-  -- a line that says a statement with a fault of a limit, and of no name, has the fault Limit first
-  pub first_limit : IsLimitFault problem s → (IsNameFault problem s → ⊥) → IsFirstFault before line Limit
-  first_limit fault no_name = record { fault = fault_limit has says started fault; first = first }
+  -- a line that means something with a fault of a limit, and of no name, has the fault Limit first
+  pub first_limit : LimitFaultIn before problem m → (NameFaultIn before problem m → ⊥) → IsFirstFault before line Limit
+  first_limit fault no_name = record { fault = fault_limit has started (meant_limit means fault); first = first }
     where
-      no_early_here : (other : RefusalKind) → IsFault before line other → 3 ≤ rank other
-      no_early_here = no_early (limited_stands fault)
-
       first : (other : RefusalKind) → IsFault before line other → rank Limit ≤ rank other
-      first Text fault' = absurd (let early = no_early_here Text fault' in omega (arith, early))
-      first Later fault' = absurd (let early = no_early_here Later fault' in omega (arith, early))
-      first Syntax fault' = absurd (let early = no_early_here Syntax fault' in omega (arith, early))
+      first Text fault' = absurd (let early = no_early Text fault' in omega (arith, early))
+      first Later fault' = absurd (let early = no_early Later fault' in omega (arith, early))
+      first Syntax fault' = absurd (let early = no_early Syntax fault' in omega (arith, early))
       first Name fault' = absurd (no_name (name_fault_here fault'))
       first Limit fault' = omega arith
       first Scope fault' = omega arith
       first Unfinished fault' = omega arith
 
-  -- a line that says a statement whose scope is not in order, with no other fault, has the fault Scope first
-  pub first_scope : IsScopeFault problem s → (IsNameFault problem s → ⊥) → (IsLimitFault problem s → ⊥) → IsFirstFault before line Scope
-  first_scope fault no_name no_limit = record { fault = fault_scope has says started fault; first = first }
+  -- a line that means something whose scope is not in order, with no other fault, has the fault Scope first
+  pub first_scope : ScopeFaultIn problem m → (NameFaultIn before problem m → ⊥) → (LimitFaultIn before problem m → ⊥) → IsFirstFault before line Scope
+  first_scope fault no_name no_limit = record { fault = fault_scope has started (meant_scope means fault); first = first }
     where
-      no_early_here : (other : RefusalKind) → IsFault before line other → 3 ≤ rank other
-      no_early_here = no_early (unordered_stands s fault)
-
       first : (other : RefusalKind) → IsFault before line other → rank Scope ≤ rank other
-      first Text fault' = absurd (let early = no_early_here Text fault' in omega (arith, early))
-      first Later fault' = absurd (let early = no_early_here Later fault' in omega (arith, early))
-      first Syntax fault' = absurd (let early = no_early_here Syntax fault' in omega (arith, early))
+      first Text fault' = absurd (let early = no_early Text fault' in omega (arith, early))
+      first Later fault' = absurd (let early = no_early Later fault' in omega (arith, early))
+      first Syntax fault' = absurd (let early = no_early Syntax fault' in omega (arith, early))
       first Name fault' = absurd (no_name (name_fault_here fault'))
       first Limit fault' = absurd (no_limit (limit_fault_here fault'))
       first Scope fault' = omega arith
       first Unfinished fault' = omega arith
 
--- a line that says a statement without an effect is bad
-bad_by_statement : {before : Option PlainProblem} {line : List ℕ} {texts : List (List ℕ)} {s : Statement} {problem : PlainProblem}
-    → HasTexts line texts → Says texts s → before ≡ Some problem → ((after : Option PlainProblem) → Declares (Some problem) s after → ⊥) → IsBadLine before line
-bad_by_statement {before = before} {s = s} has says started none =
-    bad_by_texts has (says_some says) (λ t after says' declares. none after (subst (λ b. Declares b s after) started (subst (λ u. Declares before u after) (says_one says' says) declares)))
+-- a line that does not fall into texts is bad
+pub bad_without_texts : {before : Declared} {line : List ℕ} → ((texts : List (List ℕ)) → HasTexts line texts → ⊥) → IsBadLine before line
+bad_without_texts none after good = let found = good_texts good in none found.0 found.1
 
 -- a line with a fault is bad
-pub fault_bad : {before : Option PlainProblem} {line : List ℕ} {kind : RefusalKind} → IsFault before line kind → IsBadLine before line
+pub fault_bad : {before : Declared} {line : List ℕ} {kind : RefusalKind} → IsFault before line kind → IsBadLine before line
 fault_bad (fault_text bad) = bad_without_texts (λ texts has. bad_byte_no_texts bad has)
-fault_bad (fault_later later) = bad_by_texts later.has (λ none. cc) (λ s after says declares. later_says_nothing later.later says)
-fault_bad (fault_syntax has some none) = bad_by_texts has some (λ s after says declares. none s says (effect_stands declares))
-fault_bad (fault_name has says started fault) =
-    bad_by_statement has says started (λ after declares. named_no_effect fault declares)
-fault_bad (fault_limit has says started fault) =
-    bad_by_statement has says started (λ after declares. limited_no_effect fault declares)
-fault_bad (fault_scope has says started fault) =
-    bad_by_statement has says started (λ after declares. unordered_no_effect fault declares)
+fault_bad (fault_later later) = λ after good. later_means_nothing later.outside later.later (good_meant later.has (λ none. cc) good).means
+fault_bad (fault_syntax has some none) = λ after good. say_nothing_none none (good_meant has some good).means
+fault_bad (fault_name has started fault) = λ after good.
+    let found = name_meant started fault in
+    let meant = good_meant has (means_some found.means) good in
+    named_nothing started (fault_here meant.means found) meant.effect
+fault_bad (fault_limit has started fault) = λ after good.
+    let found = limit_meant started fault in
+    let meant = good_meant has (means_some found.means) good in
+    limited_nothing started (fault_here meant.means found) meant.effect
+fault_bad (fault_scope has started fault) = λ after good.
+    let found = scope_meant started fault in
+    let meant = good_meant has (means_some found.means) good in
+    unordered_nothing started (fault_here meant.means found) meant.effect

@@ -101,15 +101,15 @@ dec_bounds K each texts = map_dec
     from_bounds least most rest (then_bounds {more = more} signed other) k = (least, codes ".." ∷ more, signed, (more, refl, (most, rest, other, k)))
 
 -- it is decided whether texts begin so, for each decided property
-abbrev Decision : {X : Type 0} → ((X → List (List ℕ) → Type 0) → List (List ℕ) → Type 0) → Type 1
+abbrev pub Decision : {X : Type 0} → ((X → List (List ℕ) → Type 0) → List (List ℕ) → Type 0) → Type 1
 Decision {X} Found = (K : X → List (List ℕ) → Type 0) → ((x : X) (rest : List (List ℕ)) → Dec (K x rest)) → (texts : List (List ℕ)) → Dec (Found K texts)
 
 -- fewer texts that begin with a phrase so
-abbrev Shortly : {X : Type 0} → (List (List ℕ) → X → List (List ℕ) → Type 0) → ℕ → (X → List (List ℕ) → Type 0) → List (List ℕ) → Type 0
+abbrev pub Shortly : {X : Type 0} → (List (List ℕ) → X → List (List ℕ) → Type 0) → ℕ → (X → List (List ℕ) → Type 0) → List (List ℕ) → Type 0
 Shortly Phrase fuel K texts = (length texts < fuel) × Finds Phrase K texts
 
 -- whether texts begin so, where it is decided by whether fewer texts do
-by_length : {X : Type 0} (Phrase : List (List ℕ) → X → List (List ℕ) → Type 0)
+pub by_length : {X : Type 0} (Phrase : List (List ℕ) → X → List (List ℕ) → Type 0)
     → ((fuel : ℕ) → Decision (Shortly Phrase fuel) → (K : X → List (List ℕ) → Type 0) → ((x : X) (rest : List (List ℕ)) → Dec (K x rest)) → (texts : List (List ℕ)) → length texts < suc fuel → Dec (Finds Phrase K texts))
     → (fuel : ℕ) → Decision (Shortly Phrase fuel)
 by_length Phrase step zero K each texts = no (λ some. absurd (omega (arith, some.0)))
@@ -217,7 +217,7 @@ abbrev TermTexts : ℕ → (List Term → List (List ℕ) → Type 0) → List (
 TermTexts fuel K texts = Finds SignedThen (λ coef. After (codes "*") (Begins (TermEnds fuel K coef))) texts
 
 -- a number with a sign takes a text
-signed_shorter : {texts rest : List (List ℕ)} {z : ℤ} → SignedThen texts z rest → length rest < length texts
+pub signed_shorter : {texts rest : List (List ℕ)} {z : ℤ} → SignedThen texts z rest → length rest < length texts
 signed_shorter (then_plain parts number) = let long = ap length parts in omega (arith, long)
 signed_shorter (then_minus parts number) = let long = ap length parts in omega (arith, long)
 

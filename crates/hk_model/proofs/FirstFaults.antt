@@ -1,6 +1,6 @@
 -- The first fault of a line, from that of the shape of its tokens; and the effect of a shape is that of the line.
 use Rattle.hk_text.specs.Tokens.{HasTexts}
-use Rattle.std.proofs.Common.{ℕ, List, Option, None, Some, refl, subst}
+use Rattle.std.proofs.Common.{◌≡◌, ◌≢◌, ℕ, List, [], Option, None, Some, refl, sym, subst}
 use Rattle.hk_model.specs.declared.faults.LineFault.{LineFault}
 use Rattle.hk_model.specs.declared.faults.LineFault.TheVariants.{Bad, NoMemory}
 use Rattle.hk_model.specs.declared.refusal.RefusalKind.{RefusalKind}
@@ -9,13 +9,17 @@ use Rattle.hk_model.specs.declared.shapes.Shape.{Shape}
 use Rattle.hk_model.specs.Declarations.{statement_of}
 use Rattle.hk_model.specs.Faults.{IsFaultyStatement, IsStatementFault, IsLineFault}
 use Rattle.hk_model.specs.LineFaults.{IsFirstFault}
-use Rattle.hk_model.specs.Models.{IsGoodLine, good_statement}
+use Rattle.hk_model.specs.Models.{Declared, IsGoodLine, good_statement, IsLaterLine}
 use Rattle.hk_model.specs.Problems.{PlainProblem}
 use Rattle.hk_model.specs.Shapes.{capped_statement, IsShapeOf}
 use Rattle.hk_model.specs.Statements.{Statement, Says, MayStand, Declares}
 use Rattle.hk_model.proofs.CappedStatements.{name_whole, name_capped, limit_whole, limit_capped, scope_whole, stand_capped, declares_whole}
-use Rattle.hk_model.proofs.FaultRanks.{first_syntax, first_name, first_limit, first_scope, fault_bad, says_some, said_not_later}
-use Rattle.hk_model.proofs.Grammar.{says_one}
+use Rattle.hk_model.proofs.FaultRanks.{first_syntax, first_name, first_limit, first_scope, fault_bad}
+use Rattle.hk_model.proofs.FirstWords.{statement_no_post, statement_no_opening, later_says_nothing}
+use Rattle.hk_text.proofs.Reading.{same_texts}
+use Rattle.hk_model.proofs.Grammar.{says_one, says_nothing}
+use Rattle.hk_model.proofs.Meanings.{Meaning, Means, means_statement, means_post, means_opening, means_inside, outside_inside, none_say_nothing}
+use Rattle.hk_model.proofs.MeantFaults.{named_stands, limited_stands, unordered_stands}
 
 -- the first fault of a statement with its numbers capped is that of the statement
 pub faulty_whole : (before : Option PlainProblem) (s : Statement) (kind : RefusalKind) → IsFaultyStatement before (capped_statement s) kind → IsFaultyStatement before s kind
@@ -30,29 +34,46 @@ faulty_whole None s Scope fault = fault
 faulty_whole (Some before) s Scope (fault, no_name, no_limit) = (scope_whole before s fault, λ named. no_name (name_capped before s named), λ limited. no_limit (limit_capped before s limited))
 faulty_whole before s Unfinished fault = fault
 
-module _ {line : List ℕ} {texts : List (List ℕ)} {s : Statement} (has : HasTexts line texts) (says : Says texts s) where
-  -- the first fault of a statement is that of the line that says it
-  pub line_fault : (before : Option PlainProblem) (kind : RefusalKind) → IsFaultyStatement before s kind → IsFirstFault before line kind
-  line_fault before Text fault = absurd fault
-  line_fault before Later fault = absurd fault
-  line_fault before Syntax none = first_syntax has (says_some says) (λ t says' stands. none (subst (MayStand before) (says_one says' says) stands)) (said_not_later has says)
-  line_fault None Name fault = absurd fault
-  line_fault (Some before) Name fault = first_name has says refl fault
-  line_fault None Limit fault = absurd fault
-  line_fault (Some before) Limit (fault, no_name) = first_limit has says refl fault no_name
-  line_fault None Scope fault = absurd fault
-  line_fault (Some before) Scope (fault, no_name, no_limit) = first_scope has says refl fault no_name no_limit
-  line_fault before Unfinished fault = absurd fault
+-- texts that say a statement are some
+said_some : {texts : List (List ℕ)} {s : Statement} → Says texts s → texts ≢ []
+said_some {s = s} says none = says_nothing (subst (λ all. Says all s) none says)
 
-module _ {line : List ℕ} {texts : List (List ℕ)} (has : HasTexts line texts) (shape : Shape) (shaped : IsShapeOf texts shape) (before : Option PlainProblem) where
+-- a statement that may not stand outside of a specification leaves the texts without a meaning
+no_meaning : (before : Declared) {texts : List (List ℕ)} {s : Statement} {m : Meaning} → before.block ≡ None → Says texts s → (MayStand before.problem s → ⊥) → Means before texts m → ⊥
+no_meaning before out says none (means_statement out' says' stands) = none (subst (MayStand before.problem) (says_one says' says) stands)
+no_meaning before out says none (means_post out' some says') = statement_no_post says says'
+no_meaning before out says none (means_opening out' some says') = statement_no_opening says says'
+no_meaning before out says none (means_inside is says' stands) = outside_inside out is
+
+module _ {before : Declared} {line : List ℕ} {texts : List (List ℕ)} {s : Statement} (has : HasTexts line texts) (out : before.block ≡ None) (says : Says texts s) where
+  -- a line that says a statement is not Later
+  said_not_later : IsLaterLine before line → ⊥
+  said_not_later later = later_says_nothing later.later (subst (λ all. Says all s) (same_texts has later.has) says)
+
+  -- the first fault of a statement is that of the line that says it
+  pub line_fault : (problem : Option PlainProblem) → before.problem ≡ problem → (kind : RefusalKind) → IsFaultyStatement problem s kind → IsFirstFault before line kind
+  line_fault problem started Text fault = absurd fault
+  line_fault problem started Later fault = absurd fault
+  line_fault problem started Syntax none =
+      first_syntax has (said_some says) (none_say_nothing (λ m means. no_meaning before out says (λ stands. none (subst (λ p. MayStand p s) started stands)) means)) said_not_later
+  line_fault None started Name fault = absurd fault
+  line_fault (Some problem) started Name fault = first_name has started (means_statement out says (subst (λ p. MayStand p s) (sym started) (named_stands fault))) fault
+  line_fault None started Limit fault = absurd fault
+  line_fault (Some problem) started Limit (fault, no_name) = first_limit has started (means_statement out says (subst (λ p. MayStand p s) (sym started) (limited_stands fault))) fault no_name
+  line_fault None started Scope fault = absurd fault
+  line_fault (Some problem) started Scope (fault, no_name, no_limit) =
+      first_scope has started (means_statement out says (subst (λ p. MayStand p s) (sym started) (unordered_stands s fault))) fault no_name no_limit
+  line_fault problem started Unfinished fault = absurd fault
+
+module _ {line : List ℕ} {texts : List (List ℕ)} (has : HasTexts line texts) (shape : Shape) (shaped : IsShapeOf texts shape) (before : Declared) (out : before.block ≡ None) where
   -- where the reader stops at a statement of a line, it stops at the line
-  pub first_of_statement : (fault : LineFault) → IsStatementFault before (statement_of shape) fault → IsLineFault before line fault
+  pub first_of_statement : (fault : LineFault) → IsStatementFault before.problem (statement_of shape) fault → IsLineFault before line fault
   first_of_statement (Bad kind) fault =
-      let whole = faulty_whole before shaped.0 kind (subst (λ t. IsFaultyStatement before t kind) shaped.2 fault) in
-      let first = line_fault has shaped.1 before kind whole in
+      let whole = faulty_whole before.problem shaped.0 kind (subst (λ t. IsFaultyStatement before.problem t kind) shaped.2 fault) in
+      let first = line_fault has out shaped.1 before.problem refl kind whole in
       (fault_bad first.fault, first)
   first_of_statement NoMemory nothing = tt
 
   -- what is declared after a statement of a line is declared after the line
-  pub effect_of_statement : (after : Option PlainProblem) → Declares before (statement_of shape) after → IsGoodLine before line after
-  effect_of_statement after declares = good_statement has shaped.1 (declares_whole shaped.0 (subst (λ t. Declares before t after) shaped.2 declares))
+  pub effect_of_statement : (after : Option PlainProblem) → Declares before.problem (statement_of shape) after → IsGoodLine before line (record before { problem = after })
+  effect_of_statement after declares = good_statement has out shaped.1 (declares_whole shaped.0 (subst (λ t. Declares before.problem t after) shaped.2 declares))

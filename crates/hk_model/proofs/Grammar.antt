@@ -1,24 +1,16 @@
 -- A line has at most one meaning: its texts, what they say and what is declared after it are determined.
-use Rattle.hk_text.specs.Tokens.{HasTexts}
-use Rattle.std.proofs.Common.{◌≡◌, ◌≢◌, ℕ, ◌<◌, ℤ, List, [], ◌∷◌, ◌++◌, map, Option, Some, refl, sym, ap, subst, ◌∙◌, arith}
+use Rattle.std.proofs.Common.{◌≡◌, ℕ, ◌<◌, ℤ, List, [], ◌∷◌, ◌++◌, map, Option, Some, refl, sym, ap, subst, ◌∙◌, arith}
 use Rattle.std.specs.Int.{bit_at}
 use Rattle.std.proofs.lemmas.Nat.Bits.{same_from_bits, bit_at-lt}
 use Rattle.hk_base.specs.Sets.{Has}
-use Rattle.hk_text.specs.Texts.{texts_of}
-use Rattle.hk_text.proofs.Reading.{same_tokens}
 use Rattle.hk_model.specs.declared.linear.Linear.{Linear}
 use Rattle.hk_model.specs.declared.problem.Constraint.{Constraint}
 use Rattle.hk_model.specs.declared.problem.Constraint.TheVariants.{AllDifferent, Sum}
 use Rattle.hk_model.specs.Phrases.{Values, SetThen, TermsThen, BoundsThen}
 use Rattle.hk_model.specs.Problems.{PlainProblem}
 use Rattle.hk_model.specs.Statements.{Statement, Variable, Distinct, Total, Objective, Says, says_header, says_variable, says_distinct, says_total, says_objective, scope_end, term_coefs, IsSetOf, AddsVariable, AreNamesOf, AddsConstraint, AddsObjective, Declares, declares_header, declares_variable, declares_distinct, declares_total, declares_objective}
-use Rattle.hk_model.specs.Models.{IsGoodLine, good_empty, good_statement, IsBadLine}
 use Rattle.hk_model.proofs.Marks.{apart, apart_none, same_first, same_rest}
 use Rattle.hk_model.proofs.Phrasing.{set_one, terms_one, bounds_one}
-
--- a line has one list of texts
-pub same_texts : {line : List ℕ} {a b : List (List ℕ)} → HasTexts line a → HasTexts line b → a ≡ b
-same_texts {line = line} x y = sym x.texts_are ∙ ap (texts_of line) (same_tokens line x.tokens y.tokens x.split y.split) ∙ y.texts_are
 
 -- the names of a scope are determined by its tokens
 pub scope_end_one : (xs ys : List (List ℕ)) → scope_end xs ≡ scope_end ys → xs ≡ ys
@@ -107,7 +99,7 @@ same_added_variable {name = name} {before = before} x y =
     ∙ sym y.added
 
 -- a new constraint has one effect
-same_added_constraint : {c d : Constraint} {before after other : PlainProblem} → c ≡ d → AddsConstraint c before after → AddsConstraint d before other → after ≡ other
+pub same_added_constraint : {c d : Constraint} {before after other : PlainProblem} → c ≡ d → AddsConstraint c before after → AddsConstraint d before other → after ≡ other
 same_added_constraint {before = before} same x y = x.added ∙ ap (λ c. record before { constraints = before.constraints ++ c ∷ [] }) same ∙ sym y.added
 
 -- an objective has one effect
@@ -135,28 +127,3 @@ says_nothing (says_variable x word set) = apart_none refl x
 says_nothing (says_distinct x words) = apart_none refl x
 says_nothing (says_total x terms bounds) = apart_none refl x
 says_nothing (says_objective x terms) = apart_none refl x
-
--- a good line has one effect
-pub good_line_one : {before after other : Option PlainProblem} {line : List ℕ} → IsGoodLine before line after → IsGoodLine before line other → after ≡ other
-good_line_one (good_empty x) (good_empty y) = refl
-good_line_one (good_empty x) (good_statement {statement = s} y says declares) = absurd (says_nothing (subst (λ texts. Says texts s) (same_texts y x) says))
-good_line_one (good_statement {statement = s} x says declares) (good_empty y) = absurd (says_nothing (subst (λ texts. Says texts s) (same_texts x y) says))
-good_line_one {before = before} (good_statement {after = after} {statement = s} x says declares) (good_statement {statement = t} y says' declares') =
-    let same : s ≡ t = says_one (subst (λ texts. Says texts s) (same_texts x y) says) says' in
-    declares_one (subst (λ u. Declares before u after) same declares) declares'
-
--- a line whose texts say nothing that may stand there is bad
-pub bad_by_texts : {before : Option PlainProblem} {line : List ℕ} {texts : List (List ℕ)} → HasTexts line texts → texts ≢ [] → ((s : Statement) (after : Option PlainProblem) → Says texts s → Declares before s after → ⊥) → IsBadLine before line
-bad_by_texts {line = line} {texts = texts} has some none after good = no_good good none
-  where
-    no_good : {before after : Option PlainProblem} → IsGoodLine before line after → ((s : Statement) (after : Option PlainProblem) → Says texts s → Declares before s after → ⊥) → ⊥
-    no_good (good_empty x) none = some (same_texts has x)
-    no_good (good_statement {after = after} {statement = s} x says declares) none = none s after (subst (λ texts. Says texts s) (same_texts x has) says) declares
-
--- a line that does not fall into texts is bad
-pub bad_without_texts : {before : Option PlainProblem} {line : List ℕ} → ((texts : List (List ℕ)) → HasTexts line texts → ⊥) → IsBadLine before line
-bad_without_texts {before = before} {line = line} none after good = no_texts good
-  where
-    no_texts : {before : Option PlainProblem} {after : Option PlainProblem} → IsGoodLine before line after → ⊥
-    no_texts (good_empty x) = none [] x
-    no_texts (good_statement x says declares) = none _ x

@@ -9,11 +9,11 @@ use Rattle.hk_model.proofs.Decisions.{dec_both, dec_either, dec_all, dec_text, d
 use Rattle.hk_model.proofs.Finding.{Begins, dec_begins, After, dec_after, Finds, dec_terms, dec_whole_set, dec_whole_terms, dec_whole_bounds}
 
 -- the end of a scope whose further names have a property
-abbrev Closes : (List (List ℕ) → Type 0) → List (List ℕ) → Type 0
+abbrev pub Closes : (List (List ℕ) → Type 0) → List (List ℕ) → Type 0
 Closes K texts = (names : List (List ℕ)) × (texts ≡ scope_end names) × K names
 
 -- whether texts are such an end
-dec_closes : (K : List (List ℕ) → Type 0) → ((names : List (List ℕ)) → Dec (K names)) → (texts : List (List ℕ)) → Dec (Closes K texts)
+pub dec_closes : (K : List (List ℕ) → Type 0) → ((names : List (List ℕ)) → Dec (K names)) → (texts : List (List ℕ)) → Dec (Closes K texts)
 dec_closes K each [] = no (λ some. at some.0 some.1)
   where
     at : (names : List (List ℕ)) → [] ≡ scope_end names → ⊥

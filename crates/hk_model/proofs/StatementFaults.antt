@@ -14,12 +14,12 @@ use Rattle.hk_model.proofs.Elements.{any_nil, dec_any}
 use Rattle.hk_model.proofs.Grammar.{same_places}
 
 -- that an option is none
-dec_none : {A : Type 0} (o : Option A) → Dec (o ≡ None)
+pub dec_none : {A : Type 0} (o : Option A) → Dec (o ≡ None)
 dec_none None = yes refl
 dec_none (Some x) = no (λ e. cc)
 
 -- whether one of the names is not declared
-dec_undeclared : (declared names : List (List ℕ)) → Dec (Any (λ name. place_of declared name ≡ None) names)
+pub dec_undeclared : (declared names : List (List ℕ)) → Dec (Any (λ name. place_of declared name ≡ None) names)
 dec_undeclared declared names = dec_any (λ name. place_of declared name ≡ None) (λ name. dec_none (place_of declared name)) names
 
 -- whether a coefficient is out of the limit

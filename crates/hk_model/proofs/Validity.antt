@@ -1,14 +1,13 @@
--- What a good line declares is valid where what was declared before it is.
+-- What a statement declares is valid where what was declared before it is.
 use Rattle.std.proofs.Common.{◌≡◌, ℕ, ◌+◌, ◌<◌, ◌≤◌, List, [], ◌∷◌, ◌++◌, length, map, Option, None, Some, refl, sym, ap, subst, ◌∙◌, arith, length-append}
 use Rattle.std.specs.Prelude.{ℤ, All, IfSome}
 use Rattle.std.proofs.lemmas.List.{length-map}
 use Rattle.std.proofs.lemmas.List.Elements.{All-nil, All-cons, All-head, All-push, All-weaker}
 use Rattle.std.proofs.lemmas.List.Quantifiers.{position-Some}
 use Rattle.hk_model.specs.declared.problem.Constraint.{Constraint}
-use Rattle.hk_model.specs.declared.problem.Constraint.TheVariants.{AllDifferent, Sum}
+use Rattle.hk_model.specs.declared.problem.Constraint.TheVariants.{AllDifferent, Sum, User}
 use Rattle.hk_model.specs.declared.linear.Linear.{Linear}
 use Rattle.hk_model.specs.declared.limits.TheConstants.{VARIABLES, NAME_BYTES, CONSTRAINTS, COEFFICIENT}
-use Rattle.hk_model.specs.Models.{IsGoodLine, good_empty, good_statement}
 use Rattle.hk_model.specs.Phrases.{Values, Term, TermsThen, last_term, more_term}
 use Rattle.hk_model.specs.Problems.{PlainProblem, IsScope, IsWithin, IsLinear, IsConstraint, IsDomain, IsValid}
 use Rattle.hk_model.specs.Statements.{Statement, Says, says_distinct, says_total, says_objective, place_of, IsSetOf, AddsVariable, AreNamesOf, AddsConstraint, AddsObjective, term_names, term_coefs, empty_problem, Declares, declares_header, declares_variable, declares_distinct, declares_total, declares_objective}
@@ -47,6 +46,7 @@ linear_more m n more scope coefs is = record { over = scope_more m n more scope 
 constraint_more : (m n : ℕ) → m ≤ n → (c : Constraint) → IsConstraint m c → IsConstraint n c
 constraint_more m n more (AllDifferent scope) c = scope_more m n more scope c
 constraint_more m n more (Sum scope coefs least most) c = (linear_more m n more scope coefs c.0, c.1, c.2)
+constraint_more m n more (User bound scope) c = (scope_more m n more scope c.0, c.1)
 
 -- an objective on variables is one on more variables
 objective_more : (m n : ℕ) → m ≤ n → (objective : Option Linear) → IfSome objective (λ linear. IsLinear m linear.scope linear.coefs) → IfSome objective (λ linear. IsLinear n linear.scope linear.coefs)
@@ -89,11 +89,11 @@ places_below all (name ∷ names) (v ∷ scope) same =
 
 module _ {names : List (List ℕ)} {before : PlainProblem} {scope : List ℕ} (named : AreNamesOf names before scope) where
   -- a scope has a variable for each of its names
-  as_many : length names ≡ length scope
+  pub as_many : length names ≡ length scope
   as_many = sym (length-map names (place_of before.names)) ∙ ap length named.declared ∙ length-map scope Some
 
   -- the variables of names are a scope
-  named_scope : 0 < length names → IsScope (length before.names) scope
+  pub named_scope : 0 < length names → IsScope (length before.names) scope
   named_scope some = record {
     some = subst (λ n. 0 < n) as_many some;
     rising = named.rising;
@@ -110,7 +110,7 @@ named_linear terms some named small = record {
 }
 
 -- a new constraint on variables keeps a problem valid
-constraint_valid : {constraint : Constraint} {before after : PlainProblem} → IsConstraint (length before.names) constraint → AddsConstraint constraint before after → IsValid before → IsValid after
+pub constraint_valid : {constraint : Constraint} {before after : PlainProblem} → IsConstraint (length before.names) constraint → AddsConstraint constraint before after → IsValid before → IsValid after
 constraint_valid {constraint = constraint} {before = before} is adds valid = subst IsValid (sym adds.added) (record {
   named = valid.named;
   variables = valid.variables;
@@ -139,14 +139,9 @@ terms_some (last_term signed word) = omega arith
 terms_some (more_term signed word more) = omega arith
 
 -- a statement that a line says keeps what is declared valid
-statement_valid : {texts : List (List ℕ)} {s : Statement} {before after : Option PlainProblem} → Says texts s → Declares before s after → IsValidSoFar before → IsValidSoFar after
+pub statement_valid : {texts : List (List ℕ)} {s : Statement} {before after : Option PlainProblem} → Says texts s → Declares before s after → IsValidSoFar before → IsValidSoFar after
 statement_valid says declares_header valid = empty_valid
 statement_valid says (declares_variable adds) valid = variable_valid adds valid
 statement_valid (says_distinct x words) (declares_distinct named adds) valid = constraint_valid (named_scope named (omega arith)) adds valid
 statement_valid (says_total {terms = terms} x all bounds) (declares_total named small least most adds) valid = constraint_valid (named_linear terms (terms_some all) named small, least, most) adds valid
 statement_valid (says_objective {terms = terms} x all) (declares_objective named small adds) valid = objective_valid (named_linear terms (terms_some all) named small) adds valid
-
--- a good line keeps what is declared valid
-pub good_line_valid : {before after : Option PlainProblem} {line : List ℕ} → IsGoodLine before line after → IsValidSoFar before → IsValidSoFar after
-good_line_valid (good_empty x) valid = valid
-good_line_valid (good_statement x says declares) valid = statement_valid says declares valid

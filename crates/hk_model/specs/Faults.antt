@@ -1,5 +1,9 @@
 -- Why the reader stops, at a statement or at a line.
-use Rattle.std.specs.Prelude.{◌≡◌, ℕ, List, ◌∷◌, Any, Option, None, Some, Contains}
+use Rattle.std.specs.Prelude.{◌≡◌, ℕ, Bool, true, List, [], ◌∷◌, ◌++◌, Any, Option, None, Some, Contains}
+use Rattle.hk_parse.specs.BlockLines.{Part}
+use Rattle.hk_parse.specs.declared.faults.BlockFault.{BlockFault}
+use Rattle.hk_parse.specs.declared.faults.BlockFault.TheVariants as block
+use Rattle.hk_spec.specs.declared.expressions.Cond.{Cond}
 use Rattle.hk_model.specs.declared.faults.LineFault.{LineFault}
 use Rattle.hk_model.specs.declared.faults.LineFault.TheVariants.{Bad, NoMemory}
 use Rattle.hk_model.specs.declared.refusal.ModelError.{ModelError}
@@ -7,7 +11,10 @@ use Rattle.hk_model.specs.declared.refusal.ModelError.TheVariants.{Refused, Memo
 use Rattle.hk_model.specs.declared.refusal.RefusalKind.{RefusalKind}
 use Rattle.hk_model.specs.declared.refusal.RefusalKind.TheVariants.{Text, Later, Syntax, Name, Limit, Scope, Unfinished}
 use Rattle.hk_model.specs.LineFaults.{IsNameFault, IsLimitFault, IsScopeFault, IsFirstFault}
-use Rattle.hk_model.specs.Models.{IsBadLine, later_words}
+use Rattle.hk_model.specs.Models.{Declared, IsBadLine, later_words}
+use Rattle.hk_parse.specs.BlockLines.{whole_spec}
+use Rattle.hk_model.specs.Posts.{Post, AddsPost}
+use Rattle.hk_model.specs.PostShapes.{IsPostFault}
 use Rattle.hk_model.specs.Problems.{PlainProblem}
 use Rattle.hk_model.specs.Statements.{Statement, MayStand, place_of}
 
@@ -42,7 +49,7 @@ IsPlaceFault declared names (Bad kind) = (kind ≡ Name) × Any (λ name. place_
 IsPlaceFault declared names NoMemory = Unit {0}
 
 -- why the reader stops at a line, by what was declared before it: it is bad, and has this fault first; want of memory says nothing
-abbrev pub IsLineFault : Option PlainProblem → List ℕ → LineFault → Type 0
+abbrev pub IsLineFault : Declared → List ℕ → LineFault → Type 0
 IsLineFault before line (Bad kind) = IsBadLine before line × IsFirstFault before line kind
 IsLineFault before line NoMemory = Unit {0}
 
@@ -50,3 +57,37 @@ IsLineFault before line NoMemory = Unit {0}
 abbrev pub IsErrorAt : ℕ → LineFault → ModelError → Type 0
 IsErrorAt number (Bad kind) error = error ≡ Refused (record { line = number; kind = kind })
 IsErrorAt number NoMemory error = error ≡ Memory
+
+-- why the reader of a model stops, where a line of a specification is bad
+abbrev pub as_line_fault : BlockFault → LineFault
+as_line_fault block.Syntax = Bad Syntax
+as_line_fault block.Name = Bad Name
+as_line_fault block.Limit = Bad Limit
+as_line_fault block.Memory = NoMemory
+
+-- the same of a first line, where its name may be that of another specification: this is told before a limit
+abbrev pub as_begin_fault : Bool → BlockFault → LineFault
+as_begin_fault true block.Limit = Bad Name
+as_begin_fault taken fault = as_line_fault fault
+
+-- a post after the header, and what is declared after it
+pub record Posts (before : Declared) (post : Post) (after : Declared) : Type 0 where
+  pub problem : PlainProblem
+  pub next : PlainProblem
+  pub started : before.problem ≡ Some problem
+  pub adds : AddsPost before.specs post problem next
+  pub declared : after ≡ record before { problem = Some next }
+
+-- why the reader stops at a post, by what was declared before it: it stands before the header, or it has this fault first
+abbrev pub IsPostFaultAfter : Declared → Post → LineFault → Type 0
+IsPostFaultAfter before post fault = IsFaultIn before.problem
+  where
+    IsFaultIn : Option PlainProblem → Type 0
+    IsFaultIn None = fault ≡ Bad Syntax
+    IsFaultIn (Some problem) = IsPostFault before.specs problem post fault
+
+-- the open specification is one with this test and is declared, and none is open
+pub record EndsBlock (before : Declared) (part : Part) (after : Declared) : Type 0 where
+  pub test : Cond
+  pub tested : part.test ≡ Some test
+  pub declared : after ≡ record before { specs = before.specs ++ whole_spec part test ∷ []; block = None }

@@ -4,6 +4,8 @@ pub mod LineFaults
 pub mod Models
 pub mod Phrases
 pub mod Pieces
+pub mod PostShapes
+pub mod Posts
 pub mod Problems
 pub mod Refused
 pub mod Shapes

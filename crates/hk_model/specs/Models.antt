@@ -1,48 +1,89 @@
 -- Which problem the bytes of a model spell, and which of its lines is the first bad one.
-use Rattle.std.specs.Prelude.{◌≡◌, ℕ, ◌+◌, List, [], ◌∷◌, ◌++◌, length, Option, None, Some, Contains, codes}
+use Rattle.std.specs.Prelude.{◌≡◌, ℕ, ◌+◌, ◌<◌, List, [], ◌∷◌, ◌++◌, length, Option, None, Some, Contains, codes}
+use Rattle.hk_text.specs.declared.tokenizer.Token.{Token}
 use Rattle.hk_text.specs.Lines.{lines}
-use Rattle.hk_text.specs.Tokens.{HasTexts}
+use Rattle.hk_text.specs.Texts.{texts_of}
+use Rattle.hk_text.specs.Tokens.{AreTokensOf, HasTexts}
+use Rattle.hk_parse.specs.BlockLines.{Part, MayStand as MayStandIn, Begins, IsGoodAfter, whole_spec}
+use Rattle.hk_parse.specs.LineTexts.{ParamText, LineText, Begin, End, SaysLine}
+use Rattle.hk_spec.specs.declared.expressions.Cond.{Cond}
+use Rattle.hk_spec.specs.Specifications.{Specification}
+use Rattle.hk_model.specs.declared.limits.TheConstants.{SPECIFICATIONS}
+use Rattle.hk_model.specs.Posts.{Post, SaysPost, AddsPost, spec_of}
 use Rattle.hk_model.specs.Problems.{PlainProblem}
 use Rattle.hk_model.specs.Statements.{Statement, Says, Declares}
 
--- a good line: one without tokens, which has no effect, or one that says a statement which may stand there
-pub data IsGoodLine : Option PlainProblem → List ℕ → Option PlainProblem → Type 0 where
-  good_empty : {before : Option PlainProblem} {line : List ℕ} → HasTexts line [] → IsGoodLine before line before
-  good_statement : {before after : Option PlainProblem} {line : List ℕ} {texts : List (List ℕ)} {statement : Statement}
-      → HasTexts line texts → Says texts statement → Declares before statement after → IsGoodLine before line after
+-- what the lines so far declare: the problem, None before the header; the specifications; and the part of a specification that isn't ended
+pub record Declared : Type 0 where
+  pub problem : Option PlainProblem
+  pub specs : List Specification
+  pub block : Option Part
+
+-- nothing is declared
+abbrev pub nothing_declared : Declared
+nothing_declared = record { problem = None; specs = []; block = None }
+
+-- a specification is opened: its name is no other specification's, there is room for it, and this is its first line
+pub record Opens (specs : List Specification) (name : List ℕ) (params : List ParamText) (part : Part) : Type 0 where
+  pub new : spec_of specs name ≡ None
+  pub room : length specs < SPECIFICATIONS
+  pub begins : Begins name params part
+
+-- a good line: one without tokens, which has no effect; outside of a specification one that says a statement which may stand there, a post, or the first line of a specification; in a specification one of its lines, or its end
+pub data IsGoodLine (before : Declared) (line : List ℕ) : Declared → Type 0 where
+  good_empty : HasTexts line [] → IsGoodLine before line before
+  good_statement : {texts : List (List ℕ)} {statement : Statement} {problem : Option PlainProblem}
+      → HasTexts line texts → before.block ≡ None → Says texts statement → Declares before.problem statement problem
+      → IsGoodLine before line (record before { problem = problem })
+  good_post : {texts : List (List ℕ)} {post : Post} {problem after : PlainProblem}
+      → HasTexts line texts → before.block ≡ None → SaysPost texts post → before.problem ≡ Some problem → AddsPost before.specs post problem after
+      → IsGoodLine before line (record before { problem = Some after })
+  good_opening : {texts : List (List ℕ)} {name : List ℕ} {params : List ParamText} {problem : PlainProblem} {part : Part}
+      → HasTexts line texts → before.block ≡ None → SaysLine texts (Begin name params) → before.problem ≡ Some problem → Opens before.specs name params part
+      → IsGoodLine before line (record before { block = Some part })
+  good_inside : {texts : List (List ℕ)} {part after : Part} {text : LineText}
+      → HasTexts line texts → before.block ≡ Some part → SaysLine texts text → IsGoodAfter part text after
+      → IsGoodLine before line (record before { block = Some after })
+  good_end : {texts : List (List ℕ)} {part : Part} {test : Cond}
+      → HasTexts line texts → before.block ≡ Some part → SaysLine texts End → MayStandIn part End → part.test ≡ Some test
+      → IsGoodLine before line (record before { specs = before.specs ++ whole_spec part test ∷ []; block = None })
 
 -- good lines, one after the other, from what was declared before them to what is declared after them
-pub data AreGoodLines : Option PlainProblem → List (List ℕ) → Option PlainProblem → Type 0 where
-  no_line : {before : Option PlainProblem} → AreGoodLines before [] before
-  then_line : {before between after : Option PlainProblem} {line : List ℕ} {more : List (List ℕ)}
+pub data AreGoodLines : Declared → List (List ℕ) → Declared → Type 0 where
+  no_line : {before : Declared} → AreGoodLines before [] before
+  then_line : {before between after : Declared} {line : List ℕ} {more : List (List ℕ)}
       → IsGoodLine before line between → AreGoodLines between more after → AreGoodLines before (line ∷ more) after
 
--- the bytes of a model spell the problem: all lines are good, and it is what they declare
-abbrev pub Spells : List ℕ → PlainProblem → Type 0
-Spells bytes problem = AreGoodLines None (lines bytes) (Some problem)
+-- the bytes of a model spell the problem: all lines are good, it is what they declare, and no specification is left open
+pub record Spells (bytes : List ℕ) (problem : PlainProblem) : Type 0 where
+  pub after : Declared
+  pub good : AreGoodLines nothing_declared (lines bytes) after
+  pub declared : after.problem ≡ Some problem
+  pub ended : after.block ≡ None
 
 -- a bad line, by what was declared before it: nothing makes it good
-abbrev pub IsBadLine : Option PlainProblem → List ℕ → Type 0
-IsBadLine before line = (after : Option PlainProblem) → IsGoodLine before line after → ⊥
+abbrev pub IsBadLine : Declared → List ℕ → Type 0
+IsBadLine before line = (after : Declared) → IsGoodLine before line after → ⊥
 
 -- the words that begin statements which aren't read yet
 abbrev pub later_words : List (List ℕ)
-later_words = codes "among" ∷ codes "sequence" ∷ codes "gcc" ∷ codes "group" ∷ codes "spec" ∷ codes "post" ∷ []
+later_words = codes "among" ∷ codes "sequence" ∷ codes "gcc" ∷ codes "group" ∷ []
 
--- a line after the header, all of its bytes in tokens, that begins with the word of a statement which isn't read yet
-pub record IsLaterLine (before : Option PlainProblem) (line : List ℕ) : Type 0 where
+-- a line after the header and outside of a specification, all of its bytes in tokens, that begins with the word of a statement which isn't read yet
+pub record IsLaterLine (before : Declared) (line : List ℕ) : Type 0 where
   pub problem : PlainProblem
-  pub started : before ≡ Some problem
+  pub started : before.problem ≡ Some problem
+  pub outside : before.block ≡ None
   pub word : List ℕ
   pub more : List (List ℕ)
   pub has : HasTexts line (word ∷ more)
   pub later : Contains later_words word
 
 -- the first bad line of a model, its number, counted from 1, and what was declared before it
-pub record IsFirstBadLine (bytes : List ℕ) (number : ℕ) (line : List ℕ) (before : Option PlainProblem) : Type 0 where
+pub record IsFirstBadLine (bytes : List ℕ) (number : ℕ) (line : List ℕ) (before : Declared) : Type 0 where
   pub front : List (List ℕ)
   pub rest : List (List ℕ)
   pub parts : lines bytes ≡ front ++ line ∷ rest
   pub counted : number ≡ length front + 1
-  pub good : AreGoodLines None front before
+  pub good : AreGoodLines nothing_declared front before
   pub bad : IsBadLine before line

@@ -1,8 +1,10 @@
-use Rattle.std.specs.Prelude.{◌≡◌, ℕ, ◌<◌, ◌≤◌, ◌^◌, ℤ, neg_ℤ, ◌≤ℤ◌, List, length, All, Option, IfSome}
+use Rattle.std.specs.Prelude.{◌≡◌, ℕ, ◌<◌, ◌≤◌, ◌^◌, ℤ, neg_ℤ, ◌≤ℤ◌, List, length, All, Option, IfSome, IsTrue, false}
 use Rattle.std.specs.List.Sorted.{IsStrictlyIncreasing}
 use Rattle.hk_base.specs.Sets.{Has}
+use Rattle.hk_spec.specs.Scopes.{is_good_cond}
+use Rattle.hk_spec.specs.Specifications.{BoundSpecification, IsBound, test_scope}
 use Rattle.hk_model.specs.declared.problem.Constraint.{Constraint}
-use Rattle.hk_model.specs.declared.problem.Constraint.TheVariants.{AllDifferent, Sum}
+use Rattle.hk_model.specs.declared.problem.Constraint.TheVariants.{AllDifferent, Sum, User}
 use Rattle.hk_model.specs.declared.linear.Linear.{Linear}
 use Rattle.hk_model.specs.declared.limits.TheConstants.{VARIABLES, VALUES, NAME_BYTES, CONSTRAINTS, COEFFICIENT, LIM}
 
@@ -30,10 +32,17 @@ pub record IsLinear (variables : ℕ) (scope : List ℕ) (coefs : List ℤ) : Ty
   pub one_each : length coefs ≡ length scope
   pub small : All (IsWithin COEFFICIENT) coefs
 
--- the constraint's scope is one of that many variables; the bounds of a sum are at most 1,000,000,000,000 in size
+-- the specification with its arguments is for scopes of that many variables, and its test doesn't use the bound on the cost
+pub record IsPosted (bound : BoundSpecification) (count : ℕ) : Type 0 where
+  pub rules : IsBound bound
+  pub len : bound.len ≡ count
+  pub no_best : IsTrue (is_good_cond (record (test_scope bound.spec) { best = false }) bound.spec.test)
+
+-- the constraint's scope is one of that many variables; the bounds of a sum are at most 1,000,000,000,000 in size; a specification is one for such a scope
 abbrev pub IsConstraint : ℕ → Constraint → Type 0
 IsConstraint variables (AllDifferent scope) = IsScope variables scope
 IsConstraint variables (Sum scope coefs least most) = IsLinear variables scope coefs × IsWithin LIM least × IsWithin LIM most
+IsConstraint variables (User bound scope) = IsScope variables scope × IsPosted bound (length scope)
 
 -- the set has a value, and only values from 0 to 127
 pub record IsDomain (domain : ℕ) : Type 0 where

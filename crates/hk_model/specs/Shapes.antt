@@ -1,5 +1,8 @@
 -- The shape of a line's tokens: the statement that they say, each of its numbers capped above the limits.
 use Rattle.std.specs.Prelude.{◌≡◌, ℕ, ℤ, pos, negsuc, neg_ℤ, suc, List, [], map, min}
+use Rattle.hk_text.specs.declared.tokenizer.Token.{Token}
+use Rattle.hk_text.specs.Lexemes.{IsLexeme}
+use Rattle.hk_text.specs.Texts.{text_of, IsWithin}
 use Rattle.hk_model.specs.declared.phrases.TheConstants.{CAP}
 use Rattle.hk_model.specs.declared.shapes.Shape.{Shape}
 use Rattle.hk_model.specs.Declarations.{statement_of}

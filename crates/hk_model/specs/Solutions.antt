@@ -1,8 +1,9 @@
 use Rattle.std.specs.Prelude.{◌≡◌, ◌≢◌, ℕ, ℤ, pos, ◌<◌, ◌+ℤ◌, ◌*ℤ◌, ◌≤ℤ◌, List, [], ◌∷◌, ◌⊎◌, length, map, slice_index, All, AllPairs, Option, None, Some}
 use Rattle.hk_base.specs.Sets.{Has}
 use Rattle.hk_model.specs.declared.problem.Constraint.{Constraint}
-use Rattle.hk_model.specs.declared.problem.Constraint.TheVariants.{AllDifferent, Sum}
+use Rattle.hk_model.specs.declared.problem.Constraint.TheVariants.{AllDifferent, Sum, User}
 use Rattle.hk_model.specs.declared.linear.Linear.{Linear}
+use Rattle.hk_spec.specs.Runs.{Accepts}
 use Rattle.hk_model.specs.Problems.{PlainProblem}
 
 -- the values of a scope's variables, in the order of the scope
@@ -15,10 +16,11 @@ linear_value [] coefs values = pos 0
 linear_value (variable ∷ scope) [] values = pos 0
 linear_value (variable ∷ scope) (coef ∷ coefs) values = (coef *ℤ pos (slice_index values variable)) +ℤ linear_value scope coefs values
 
--- the constraint holds where each variable has its value: no two values of the scope are equal, or the sum lies within its bounds
+-- the constraint holds where each variable has its value: no two values of the scope are equal; the sum lies within its bounds; the exact run of the specification accepts the values of the scope, whatever the bound on the cost
 abbrev pub Holds : List ℕ → Constraint → Type 0
 Holds values (AllDifferent scope) = AllPairs (λ x y. x ≢ y) (scope_values scope values)
 Holds values (Sum scope coefs least most) = (least ≤ℤ linear_value scope coefs values) × (linear_value scope coefs values ≤ℤ most)
+Holds values (User bound scope) = Accepts bound (pos 0) (scope_values scope values)
 
 -- each variable has one of its values, and every constraint holds
 pub record IsSolution (p : PlainProblem) (values : List ℕ) : Type 0 where

@@ -164,7 +164,7 @@ fn total_passes_limit(draft: &Draft, terms: &[Term<'_>], least: i64, most: i64) 
 }
 
 /// Whether a bound is within the limit.
-fn is_within_limit(number: i64) -> bool
+pub fn is_within_limit(number: i64) -> bool
     ensures { IsTrue result ↔ IsWithin LIM number }
 {
     -LIM <= number && number <= LIM

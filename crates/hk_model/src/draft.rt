@@ -1,4 +1,5 @@
-ghost use Rattle.std.specs.Prelude.{◌≡◌, ◌<◌, ◌↔◌, ◌∷◌, ◌++◌, [], length, None, Some, IsSome, IsTrue, OnOk, IfOk};
+ghost use Rattle.std.specs.Prelude.{◌≡◌, ◌<◌, ◌↔◌, ◌∷◌, ◌++◌, [], length, All, None, Some, IsSome, IsTrue, OnOk, IfOk};
+ghost use Rattle.std.specs.List.Sorted.{IsStrictlyIncreasing};
 ghost use Rattle.hk_model.specs.Problems.{IsValid};
 ghost use Rattle.hk_model.specs.Statements.{place_of, empty_problem};
 
@@ -21,11 +22,15 @@ pub struct Draft {
 
 impl Model for Draft {
     ghost use Rattle.std.specs.Prelude.{◌≤◌, map};
+    ghost use Rattle.std.specs.Coded.{codes};
+    ghost use Rattle.hk_spec.specs.contracts.bindings.Bound as bound;
     ghost use Rattle.indexmap.specs.IndexMap.{keys, values, index_map_len};
     ghost use Rattle.hk_model.specs.declared.limits.TheConstants.{VARIABLES};
     ghost use Rattle.hk_model.specs.Problems.{PlainProblem};
 
     ghost Value = { PlainProblem };
+
+    ghost coded = { Prim.hlevel (codes, bound.the_row.coded) };
 
     ghost view = { λ d. record {
       names = map (λ name. name.items) (keys d.variables);
@@ -71,6 +76,16 @@ impl Draft {
             None => None,
             Some(place) => Some(place as u16),
         }
+    }
+
+    /// How many variables are in a scope, of which each is declared.
+    pub fn scope_len(&self, scope: &[u16]) -> u16
+        requires rising { IsStrictlyIncreasing scope.now }
+        requires declared { All (λ place. place < length self.now.names) scope.now }
+        ensures { result ≡ length scope.now }
+    {
+        prove!(scope.len() <= self.variables.len());
+        scope.len() as u16
     }
 
     /// Declares a variable under a name that no other has.

@@ -1,39 +1,39 @@
-ghost use Rattle.std.specs.Prelude.{◌≡◌, ◌≢◌, ◌<◌, ◌≤◌, ◌↔◌, length, All, AllPairs, IfOk, IfSome, IsOk, IsSome, IsTrue};
+ghost use Rattle.std.specs.Prelude.{◌≡◌, ◌≢◌, ◌<◌, ◌≤◌, ◌↔◌, length, All, AllPairs, IfOk, IfSome, IsSome, IsTrue};
 ghost use Rattle.hk_model.specs.Problems.{IsConstraint};
 ghost use Rattle.hk_model.specs.Solutions.{scope_values, Holds, cost_of};
 
 use crate::limits::{VALUES, VARIABLES};
 use crate::linear::{cost_by, linear_value};
 use crate::problem::{Constraint, Problem};
-use std::alloc::AllocError;
+use hk_base::Bytes;
+use std::alloc::{AllocError, Global};
 
 /// What the values cost, where they make every constraint of the problem hold, and else None.
 /// There is one value below 128 for each variable; whether it is in the variable's set isn't asked.
-/// No cost and no sum is more than 32,512,000,000 in size. No constraint takes memory today, so the
-/// call isn't refused.
-pub fn judge(problem: &Problem, values: &[u8]) -> Result<Option<i64>, AllocError>
+/// No cost and no sum is more than 32,512,000,000 in size. Fails only for want of memory, which a
+/// specification's states take.
+pub fn judge(alloc: Global, problem: &Problem, values: &[u8]) -> Result<Option<i64>, AllocError>
     requires one_each { length values.now ≡ length problem.now.domains }
     requires small { All (λ value. value < VALUES) values.now }
-    ensures answers { IsOk result }
     ensures holds { IfOk result (λ cost. IsSome cost ↔ All (Holds values.now) problem.now.constraints) }
     ensures cost { IfOk result (λ found. IfSome found (λ cost. cost ≡ cost_of problem.now values.now)) }
 {
     for constraint in problem.constraints() {
-        if !holds(constraint, values) {
+        if !holds(alloc, constraint, values)? {
             return Ok(None);
         }
     }
     Ok(Some(cost_by(problem.objective(), values)))
 }
 
-fn holds(constraint: &Constraint, values: &[u8]) -> bool
+fn holds(alloc: Global, constraint: &Constraint, values: &[u8]) -> Result<bool, AllocError>
     requires scope { IsConstraint (length values.now) constraint.now }
     requires few { length values.now ≤ VARIABLES }
     requires small { All (λ value. value < VALUES) values.now }
-    ensures { IsTrue result ↔ Holds values.now constraint.now }
+    ensures { IfOk result (λ found. IsTrue found ↔ Holds values.now constraint.now) }
 {
     match constraint {
-        Constraint::AllDifferent { scope } => are_different(scope.as_slice(), values),
+        Constraint::AllDifferent { scope } => Ok(are_different(scope.as_slice(), values)),
         Constraint::Sum {
             scope,
             coefs,
@@ -41,9 +41,25 @@ fn holds(constraint: &Constraint, values: &[u8]) -> bool
             most,
         } => {
             let value = linear_value(scope.as_slice(), coefs.as_slice(), values);
-            *least <= value && value <= *most
+            Ok(*least <= value && value <= *most)
+        }
+        Constraint::User { bound, scope } => {
+            let own = values_of(alloc, scope.as_slice(), values)?;
+            bound.accepts(alloc, own.as_slice(), 0)
         }
     }
+}
+
+/// The values of the scope's variables, in the order of the scope.
+fn values_of(alloc: Global, scope: &[u16], values: &[u8]) -> Result<Bytes, AllocError>
+    requires declared { All (λ variable. variable < length values.now) scope.now }
+    ensures { IfOk result (λ own. own ≡ scope_values scope.now values.now) }
+{
+    let mut own = Bytes::new(alloc);
+    for variable in scope {
+        own.push(values[*variable as usize])?;
+    }
+    Ok(own)
 }
 
 fn are_different(scope: &[u16], values: &[u8]) -> bool

@@ -7,7 +7,7 @@ ghost use Rattle.hk_model.specs.Models.{later_words};
 use hk_text::{Token, text_of};
 
 /// The words that begin statements which aren't read yet.
-const LATER_WORDS: [&[u8]; 6] = [b"among", b"sequence", b"gcc", b"group", b"spec", b"post"];
+const LATER_WORDS: [&[u8]; 4] = [b"among", b"sequence", b"gcc", b"group"];
 
 /// Whether the tokens begin a statement that isn't read yet.
 pub fn begins_later(line: &[u8], tokens: &[Token]) -> bool

@@ -9,6 +9,8 @@ pub use problem::{Constraint, Constraints, Names, Problem};
 pub use reading::read_model;
 pub use refusal::{ModelError, Refusal, RefusalKind};
 
+mod binding;
+mod declared;
 mod declaring;
 mod draft;
 mod faults;
@@ -18,6 +20,7 @@ mod laws;
 pub mod limits;
 mod linear;
 mod phrases;
+mod posts;
 mod problem;
 mod reading;
 mod refusal;

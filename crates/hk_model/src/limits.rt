@@ -12,6 +12,9 @@ pub const NAME_BYTES: usize = 32;
 /// How many constraints a problem has at most.
 pub const CONSTRAINTS: usize = 64;
 
+/// How many specifications a model has at most.
+pub const SPECIFICATIONS: usize = 64;
+
 /// How great a coefficient is at most in size.
 pub const COEFFICIENT: i64 = 1_000_000;
 

@@ -80,7 +80,7 @@ fn number_of<'t>(line: &[u8], tokens: &'t [Token]) -> Option<(u64, &'t [Token])>
 }
 
 /// A number, or `-` and a number other than 0, and the tokens after it.
-fn signed_of<'t>(line: &[u8], tokens: &'t [Token]) -> Option<(i64, &'t [Token])>
+pub fn signed_of<'t>(line: &[u8], tokens: &'t [Token]) -> Option<(i64, &'t [Token])>
     requires { All (IsTokenIn line.now) tokens.now }
     ensures some { IfSome result (λ found. BeginsCapped SignedThen capped_signed (texts_of line.now tokens.now) found.0 (texts_of line.now found.1.now)) }
     ensures tokens { IfSome result (λ found. All (IsTokenIn line.now) found.1.now) }

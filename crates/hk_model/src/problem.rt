@@ -3,6 +3,7 @@ ghost use Rattle.hk_model.specs.Problems.{IsValid};
 
 use crate::linear::Linear;
 use hk_base::{Bytes, List};
+use hk_spec::Bound;
 use std::marker::Model;
 
 /// The variables' names, in the order of declaration.
@@ -26,6 +27,11 @@ pub enum Constraint {
         least: i64,
         most: i64,
     },
+    /// The specification accepts the values of the scope's variables, for whose number it is bound.
+    User {
+        bound: Bound,
+        scope: List<u16>,
+    },
 }
 
 /// A valid problem: for each variable a name and a nonempty set of values, the constraints, and the
@@ -40,9 +46,13 @@ pub struct Problem {
 }
 
 impl Model for Problem {
+    ghost use Rattle.std.specs.Coded.{codes};
+    ghost use Rattle.hk_spec.specs.contracts.bindings.Bound as bound;
     ghost use Rattle.hk_model.specs.Problems.{PlainProblem, IsValid};
 
     ghost Value = { PlainProblem };
+
+    ghost coded = { Prim.hlevel (codes, bound.the_row.coded) };
 
     ghost view = { λ p. record { names = p.names; domains = p.domains; constraints = p.constraints; objective = p.objective } };
 

@@ -16,7 +16,7 @@ pub enum RefusalKind {
     Limit,
     /// The variables of a scope don't stand in the order of their declaration.
     Scope,
-    /// There is no header.
+    /// There is no header, or a specification isn't ended.
     Unfinished,
 }
 

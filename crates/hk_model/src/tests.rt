@@ -1,10 +1,77 @@
-use crate::{ModelError, Refusal, RefusalKind, read_model};
+use crate::{ModelError, Problem, RefusalKind, judge, read_model};
+use hk_base::{Bytes, List};
+use std::alloc::{AllocError, Global};
 use std::test::Fail;
 
-#[test]
-fn reads_models(rt: HostRuntime) -> Result<(), Fail> {
-    // a text, and how many variables and constraints it declares, and whether an objective
-    let rows = [
+/// A specification of lists that rise, posted on two variables.
+const RISE: &str =
+    "hkm 1\nvar x in 0..3\nvar y in 0..3\nspec rise ()\ndown m Min 0\ntest ((i < 1) or (m < v))\nstep m v\nend\npost rise () (x, y)\n";
+
+/// A specification with a parameter of each kind, posted with an argument for each.
+const NEAR: &str =
+    "hkm 1\nvar x in 0..5\nvar y in 0..5\nspec near (num a, set b, list c)\ntest ((v <= a) and ((v in b) and (c[i] < v)))\nend\npost near (4, {5, 0..2}, [1, -1]) (x, y)\n";
+
+/// The problem that a text spells, where it spells one.
+fn spelled(alloc: Global, text: &[u8]) -> Option<Problem> {
+    if text.len() > 1_048_576 {
+        return None;
+    }
+    read_model(alloc, text).ok()
+}
+
+/// The line and the kind of the refusal of a text, where it has one.
+fn refused(alloc: Global, text: &[u8]) -> Option<(u32, RefusalKind)> {
+    if text.len() > 1_048_576 {
+        return None;
+    }
+    match read_model(alloc, text) {
+        Err(ModelError::Refused(refusal)) => Some((refusal.line, refusal.kind)),
+        _ => None,
+    }
+}
+
+/// How many variables and constraints a text declares, and whether an objective.
+fn declared(alloc: Global, text: &[u8]) -> Option<(usize, usize, bool)> {
+    let problem = spelled(alloc, text)?;
+    let variables = problem.domains().len();
+    let constraints = problem.constraints().len();
+    Some((variables, constraints, problem.objective().is_some()))
+}
+
+/// Whether the values of two variables are judged so by the model of a text.
+fn is_judged(
+    alloc: Global,
+    text: &[u8],
+    values: [u8; 2],
+    cost: Option<i64>,
+) -> Result<bool, AllocError> {
+    let Some(problem) = spelled(alloc, text) else {
+        return Ok(false);
+    };
+    if problem.domains().len() != 2 || values[0] > 127 || values[1] > 127 {
+        return Ok(false);
+    }
+    Ok(judge(alloc, &problem, &values)? == cost)
+}
+
+/// A model of so many specifications.
+fn specifications(alloc: Global, count: u8) -> Result<Bytes, AllocError> {
+    let mut text = List::new(alloc);
+    text.push_all(b"hkm 1\n")?;
+    for number in 0..count {
+        text.push_all(b"spec ")?;
+        text.push(b'a' + number / 16)?;
+        text.push(b'a' + number % 16)?;
+        text.push_all(b" ()\ntest true\nend\n")?;
+    }
+    Ok(text)
+}
+
+/// A text, how many variables and constraints it declares, and whether an objective.
+type Read = (&'static str, usize, usize, bool);
+
+fn good_models() -> [Read; 9] {
+    [
         ("hkm 1", 0, 0, false),
         ("hkm 1\n# days\n\nvar x in 0..127 # a day\n", 1, 0, false),
         (
@@ -25,20 +92,53 @@ fn reads_models(rt: HostRuntime) -> Result<(), Fail> {
             1,
             true,
         ),
+        (
+            "hkm 1\nvar x in 0..2\nspec atleast (num a)\ntest (v >= a)\nend\npost atleast (2) (x)\n",
+            1,
+            1,
+            false,
+        ),
+        (
+            "hkm 1\nspec x ()\n# any\ntest true\n\nend\nvar x in 0..1\n",
+            1,
+            0,
+            false,
+        ),
+        (RISE, 2, 1, false),
+        (NEAR, 2, 1, false),
+    ]
+}
+
+#[test]
+fn reads_models(rt: HostRuntime) {
+    for (text, variables, constraints, objective) in good_models() {
+        let found = declared(rt.alloc(), text.as_bytes());
+        assert_eq!(rt; found, Some((variables, constraints, objective)), "{text}");
+    }
+}
+
+#[test]
+fn judges_values(rt: HostRuntime) -> Result<(), Fail> {
+    let rows = [
+        (RISE, [0, 1], Some(0)),
+        (RISE, [1, 1], None),
+        (NEAR, [2, 0], Some(0)),
+        (NEAR, [5, 0], None),
+        (NEAR, [4, 0], None),
+        (NEAR, [1, 0], None),
     ];
-    for (text, variables, constraints, objective) in rows {
-        let problem = read_model(rt.alloc(), text.as_bytes())?;
-        assert_eq!(rt; problem.names().len(), variables, "{text}");
-        assert_eq!(rt; problem.domains().len(), variables, "{text}");
-        assert_eq!(rt; problem.constraints().len(), constraints, "{text}");
-        assert_eq!(rt; problem.objective().is_some(), objective, "{text}");
+    for (text, values, cost) in rows {
+        let judged = is_judged(rt.alloc(), text.as_bytes(), values, cost)?;
+        assert!(rt; judged, "{values:?} by {text}");
     }
     Ok(())
 }
 
-#[test]
-fn refuses_models(rt: HostRuntime) {
-    let rows = [
+/// A text, and the line and the kind of its refusal.
+type Refused = (&'static str, u32, RefusalKind);
+
+fn bad_models() -> [Refused; 18] {
+    [
         ("", 1, RefusalKind::Unfinished),
         ("# nothing\n", 2, RefusalKind::Unfinished),
         ("hkm 1\nvar $", 2, RefusalKind::Text),
@@ -89,13 +189,78 @@ fn refuses_models(rt: HostRuntime) {
             3,
             RefusalKind::Later,
         ),
-    ];
-    for (text, line, kind) in rows {
-        match read_model(rt.alloc(), text.as_bytes()) {
-            Err(ModelError::Refused(refusal)) => {
-                assert_eq!(rt; refusal, Refusal { line, kind }, "{text}")
-            }
-            _ => assert!(rt; false, "{text}"),
-        }
+    ]
+}
+
+fn bad_specifications() -> [Refused; 14] {
+    [
+        ("hkm 1\nspec s ()", 3, RefusalKind::Unfinished),
+        ("spec s ()", 1, RefusalKind::Syntax),
+        ("hkm 1\nend", 2, RefusalKind::Syntax),
+        ("hkm 1\nspec s ()\nend", 3, RefusalKind::Syntax),
+        ("hkm 1\nspec s ()\ngroup", 3, RefusalKind::Syntax),
+        ("hkm 1\nspec s ()\ntest (best <= v)", 3, RefusalKind::Name),
+        (
+            "hkm 1\nspec s ()\ntest true\nend\nspec s ()",
+            5,
+            RefusalKind::Name,
+        ),
+        (
+            "hkm 1\nvar x in 0..1\nspec s ()\ntest true\npost s () (x)",
+            5,
+            RefusalKind::Syntax,
+        ),
+        ("hkm 1\nvar x in 0..1\npost s () (x)", 3, RefusalKind::Name),
+        (
+            "hkm 1\nvar x in 0..2\nspec atleast (num a)\ntest (v >= a)\nend\npost atleast (2, 3) (x)",
+            6,
+            RefusalKind::Name,
+        ),
+        (
+            "hkm 1\nvar x in 0..2\nspec atleast (num a)\ntest (v >= a)\nend\npost atleast ({2}) (x)",
+            6,
+            RefusalKind::Name,
+        ),
+        (
+            "hkm 1\nvar x in 0..1\nspec s (list c)\ntest (c[i] <= v)\nend\npost s ([1, 2]) (x)",
+            6,
+            RefusalKind::Limit,
+        ),
+        (
+            "hkm 1\nvar x in 0..1\nvar y in 0..1\nspec s ()\ntest true\nend\npost s () (y, x)",
+            7,
+            RefusalKind::Scope,
+        ),
+        (
+            "hkm 1\nvar x in 0..1\nspec s (num a)\ntest (v >= a)\nend\npost s (1000000000001) (x)",
+            6,
+            RefusalKind::Limit,
+        ),
+    ]
+}
+
+#[test]
+fn refuses_models(rt: HostRuntime) -> Result<(), Fail> {
+    for (text, line, kind) in bad_models() {
+        assert_eq!(rt;
+            refused(rt.alloc(), text.as_bytes()),
+            Some((line, kind)),
+            "{text}"
+        );
     }
+    for (text, line, kind) in bad_specifications() {
+        assert_eq!(rt;
+            refused(rt.alloc(), text.as_bytes()),
+            Some((line, kind)),
+            "{text}"
+        );
+    }
+    let full = specifications(rt.alloc(), 64)?;
+    assert_eq!(rt; declared(rt.alloc(), full.as_slice()), Some((0, 0, false)));
+    let more = specifications(rt.alloc(), 65)?;
+    assert_eq!(rt;
+        refused(rt.alloc(), more.as_slice()),
+        Some((194, RefusalKind::Limit))
+    );
+    Ok(())
 }

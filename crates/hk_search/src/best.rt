@@ -21,7 +21,7 @@ pub fn offer(
     requires whole { length problem.now.domains ≤ length values.now }
     ensures { OnOk result (IsBestAfter problem.now (IsFrontOf values.now) best.old best.new) }
 {
-    let Some(cost) = judge(problem, values)? else {
+    let Some(cost) = judge(alloc, problem, values)? else {
         return Ok(());
     };
     if !is_better(cost, best) {

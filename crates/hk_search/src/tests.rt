@@ -125,8 +125,8 @@ fn least_costs(rt: HostRuntime) -> Result<(), Fail> {
 #[test]
 fn judged_costs(rt: HostRuntime) -> Result<(), Fail> {
     let negative = one_of_two(rt.alloc(), [-1, 0])?;
-    assert_eq!(rt; judge(&negative, &[1, 0])?, Some(-1));
-    assert_eq!(rt; judge(&negative, &[1, 1])?, None);
+    assert_eq!(rt; judge(rt.alloc(), &negative, &[1, 0])?, Some(-1));
+    assert_eq!(rt; judge(rt.alloc(), &negative, &[1, 1])?, None);
     Ok(())
 }
 
@@ -151,7 +151,7 @@ fn first_solutions(rt: HostRuntime) -> Result<(), Fail> {
 #[test]
 fn judged_values(rt: HostRuntime) -> Result<(), Fail> {
     let problem = distinct(rt.alloc(), 2)?;
-    assert_eq!(rt; judge(&problem, &[0, 1])?, Some(0));
-    assert_eq!(rt; judge(&problem, &[1, 1])?, None);
+    assert_eq!(rt; judge(rt.alloc(), &problem, &[0, 1])?, Some(0));
+    assert_eq!(rt; judge(rt.alloc(), &problem, &[1, 1])?, None);
     Ok(())
 }

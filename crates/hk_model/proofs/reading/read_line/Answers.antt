@@ -1,12 +1,18 @@
-use Rattle.hk_text.specs.Tokens.{IsTokenIn}
 use Rattle.std.proofs.Common.{◌≡◌, sym, subst}
 use Rattle.std.specs.List.{All}
+use Rattle.hk_text.specs.Texts.{texts_of}
+use Rattle.hk_text.specs.Tokens.{HasTexts, IsTokenIn}
 use Rattle.hk_model.specs.LineFaults.{fault_text}
-use Rattle.hk_model.proofs.FaultRanks.{first_text, fault_bad}
+use Rattle.hk_model.proofs.FaultRanks.{has_texts, first_text, fault_bad}
 use Rattle.hk_model.proofs.reading.read_line.Goals as goal
 
-pub read_tokens-requires-clause-within : goal.read_tokens-requires-clause-within
-read_tokens-requires-clause-within c =
+pub read-requires-clause-has : goal.read-requires-clause-has
+read-requires-clause-has c =
+    let slice : c.as_slice.result.now ≡ c.in-Ok.found = c.as_slice.ensures in
+    subst (λ tokens. HasTexts c.args.line.now (texts_of c.args.line.now tokens)) (sym slice) (has_texts c.args.line.now c.in-Ok.found c.in-Ok.ensures.ok)
+
+pub read-requires-clause-within : goal.read-requires-clause-within
+read-requires-clause-within c =
     let slice : c.as_slice.result.now ≡ c.in-Ok.found = c.as_slice.ensures in
     let found = c.in-Ok.ensures in
     subst (All (IsTokenIn c.args.line.now)) (sym slice) (λ index any within. record {

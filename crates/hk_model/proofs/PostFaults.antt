@@ -1,0 +1,71 @@
+-- What the tests of a post say of its faults, and what is declared after it.
+use Rattle.std.proofs.Common.{◌≡◌, ℕ, ◌<◌, ◌≤◌, ◌⊎◌, inl, inr, List, [], ◌∷◌, ◌++◌, length, map, Option, None, Some, refl, ap, subst, ◌∙◌, arith}
+use Rattle.std.specs.Prelude.{All, Any}
+use Rattle.std.proofs.lemmas.List.Elements.{All-nil, All-cons}
+use Rattle.std.proofs.lemmas.List.Quantifiers.{position-Some}
+use Rattle.hk_spec.specs.Specifications.{Specification, BoundSpecification, param_kinds}
+use Rattle.hk_model.specs.declared.limits.TheConstants.{CONSTRAINTS}
+use Rattle.hk_model.specs.declared.problem.Constraint.TheVariants.{User}
+use Rattle.hk_model.specs.Posts.{Post, spec_of, FitKinds, IsSmallArg, AreArgsOf, PostNameFault, no_spec, other_args, no_variable, PostLimitFault, many_posts, large_arg, AddsPost}
+use Rattle.hk_model.specs.PostShapes.{HasNoFit}
+use Rattle.hk_model.specs.Problems.{PlainProblem}
+use Rattle.hk_model.specs.Statements.{place_of, AreNamesOf}
+use Rattle.hk_model.proofs.Effects.{no_places_of}
+use Rattle.hk_model.proofs.Elements.{each_not_some}
+
+-- the place of a name is that of a variable
+pub places_within : (all names : List (List ℕ)) (scope : List ℕ) → map (place_of all) names ≡ map Some scope → All (λ place. place < length all) scope
+places_within all names [] same = All-nil (λ place. place < length all)
+places_within all [] (first ∷ scope) same = cc
+places_within all (name ∷ names) (first ∷ scope) same =
+    let place : place_of all name ≡ Some first = cc in
+    let rest : map (place_of all) names ≡ map Some scope = cc in
+    All-cons (λ place. place < length all) first scope (position-Some _ all first [] place).0 (places_within all names scope rest)
+
+-- where no specification of the name asks such arguments, the post has a fault of a name
+pub unfit_post : (specs : List Specification) (before : PlainProblem) (post : Post) → HasNoFit specs post.spec post.args → PostNameFault specs before post
+unfit_post specs before post none = by (spec_of specs post.spec) refl
+  where
+    by : (found : Option Specification) → spec_of specs post.spec ≡ found → PostNameFault specs before post
+    by None is = no_spec is
+    by (Some spec) is = other_args is (none spec is)
+
+-- one specification is found
+one_found : {found : Option Specification} {s t : Specification} → found ≡ Some s → found ≡ Some t → s ≡ t
+one_found x y = cc
+
+-- where the arguments fit and the names have places, there is no fault of a name
+pub named_post : (specs : List Specification) (before : PlainProblem) (post : Post) (spec : Specification) (scope : List ℕ) → spec_of specs post.spec ≡ Some spec → FitKinds (param_kinds spec) post.args
+    → map (place_of before.names) post.names ≡ map Some scope → PostNameFault specs before post → ⊥
+named_post specs before post spec scope declared fit places (no_spec none) = cc
+named_post specs before post spec scope declared fit places (other_args is other) = other (subst (λ s. FitKinds (param_kinds s) post.args) (one_found declared is) fit)
+named_post specs before post spec scope declared fit places (no_variable none) = no_places_of before.names post.names none scope places
+
+-- where there is no room or an argument is not small, there is a fault of a limit
+pub large_post : (before : PlainProblem) (post : Post) → (CONSTRAINTS ≤ length before.constraints) ⊎ Any (λ arg. IsSmallArg (length post.names) arg → ⊥) post.args → PostLimitFault before post
+large_post before post (inl many) = many_posts many
+large_post before post (inr large) = large_arg large
+
+-- and where there is room and the arguments are small, there is none
+pub small_post : (before : PlainProblem) (post : Post) → length before.constraints < CONSTRAINTS → All (IsSmallArg (length post.names)) post.args → PostLimitFault before post → ⊥
+small_post before post room small (many_posts many) = omega (arith, room, many)
+small_post before post room small (large_arg large) = each_not_some (IsSmallArg (length post.names)) (λ arg. IsSmallArg (length post.names) arg → ⊥) (λ arg is none. none is) post.args small large
+
+-- the specification that is bound to the arguments is added on the scope
+pub posted : {specs : List Specification} {before after : PlainProblem} (post : Post) (spec : Specification) (bound : BoundSpecification) (scope : List ℕ) → spec_of specs post.spec ≡ Some spec → FitKinds (param_kinds spec) post.args
+    → length before.constraints < CONSTRAINTS → All (IsSmallArg (length post.names)) post.args → AreNamesOf post.names before scope
+    → bound.spec ≡ spec → AreArgsOf post.args bound.args → bound.len ≡ length scope
+    → after ≡ record before { constraints = before.constraints ++ User bound scope ∷ [] } → AddsPost specs post before after
+posted {before = before} post spec bound scope declared fit room small names_are spec_is args_are len_is added =
+    let bound_is : User bound scope ≡ User (record { spec = spec; args = bound.args; len = length scope }) scope = λ i. User (record { spec = spec_is i; args = bound.args; len = len_is i }) scope in
+    record {
+      spec = spec;
+      declared = declared;
+      fit = fit;
+      small = small;
+      args = bound.args;
+      args_are = args_are;
+      scope = scope;
+      names_are = names_are;
+      adds = record { room = room; added = added ∙ ap (λ constraint. record before { constraints = before.constraints ++ constraint ∷ [] }) bound_is };
+    }

@@ -1,0 +1,120 @@
+-- A post's specification is found, its arguments fit the parameters and their limits, and it is bound to them.
+use Rattle.std.proofs.Common.{◌≡◌, ◌<◌, ◌≤◌, ◌+◌, ◌↔◌, ℕ, suc, Bool, true, false, cond, List, [], ◌∷◌, ◌++◌, length, map, drop, take, slice_index_or, get_or, Some, find, IsTrue, refl, sym, ap, subst, ◌∙◌, arith}
+use Rattle.std.specs.Prelude.{All, Any}
+use Rattle.std.specs.List.Sorted.{IsStrictlyIncreasing}
+use Rattle.std.proofs.lemmas.List.{drop_more, take_more, map-append, length-map, get_or-map}
+use Rattle.std.proofs.lemmas.List.Elements.{All-nil, All-cons, All-head, All-tail, All-map, All-push, All-weaker}
+use Rattle.hk_spec.specs.declared.arguments.Arg.{Arg}
+use Rattle.hk_spec.specs.declared.parts.Param.{Param}
+use Rattle.hk_spec.specs.declared.parts.ParamKind.{ParamKind}
+use Rattle.hk_model.specs.declared.limits.TheConstants.{VALUES}
+use Rattle.hk_model.specs.declared.phrases.Values.{Values as ReadValues}
+use Rattle.hk_model.specs.declared.posts.PostArg.{PostArg}
+use Rattle.hk_model.specs.declared.posts.PostArg.TheVariants as read
+use Rattle.hk_model.specs.Declarations.{values_of, plain_values}
+use Rattle.hk_model.specs.Phrases.{Values}
+use Rattle.hk_model.specs.Posts.{ArgText, FitKinds, IsSmallArg, IsArgOf, AreArgsOf}
+use Rattle.hk_model.specs.PostShapes.{plain_arg, args_of}
+use Rattle.hk_model.proofs.Decisions.{dec_not}
+use Rattle.hk_model.proofs.Elements.{dec_any, each_from_none}
+use Rattle.hk_model.proofs.PostEffects.{dec_small_arg}
+use Rattle.hk_model.proofs.SumSizes.{scope_short}
+
+module _ {X : Type 0} (p : X → Bool) (xs : List X) (i : ℕ) (x : X) (within : i < length xs) (here : x ≡ slice_index_or xs i x) where
+  left_is : drop i xs ≡ x ∷ drop (i + 1) xs
+  left_is = drop_more xs i x within ∙ ap (λ y. y ∷ drop (i + 1) xs) (sym here)
+
+  -- the first element of those that are left is found where it passes
+  pub found_here : p x ≡ true → find p (drop i xs) ≡ Some x
+  found_here passes = ap (find p) left_is ∙ ap (λ b. cond b (Some x) (find p (drop (i + 1) xs))) passes
+
+  -- and else one of those after it
+  pub found_later : p x ≡ false → find p (drop i xs) ≡ find p (drop (i + 1) xs)
+  found_later fails = ap (find p) left_is ∙ ap (λ b. cond b (Some x) (find p (drop (i + 1) xs))) fails
+
+-- no range of a set is turned, and no value passes the limit
+abbrev pub AreSmallValues : List ReadValues → Type 0
+AreSmallValues set = All (λ values. (values.first ≤ values.last) × (values.last < VALUES)) set
+
+-- the values of a set as they were read are small where the items are
+small_items : (set : List ReadValues) → AreSmallValues set → All (λ values. values.first ≤ values.last) (values_of set) × All (λ values. values.last < VALUES) (values_of set)
+small_items set all = (
+  All-map (λ (values : Values). values.first ≤ values.last) plain_values set (All-weaker (λ values. (values.first ≤ values.last) × (values.last < VALUES)) (λ values. values.first ≤ values.last) (λ values both. both.0) set all),
+  All-map (λ (values : Values). values.last < VALUES) plain_values set (All-weaker (λ values. (values.first ≤ values.last) × (values.last < VALUES)) (λ values. values.last < VALUES) (λ values both. both.1) set all),
+)
+
+items_small : (set : List ReadValues) → All (λ values. values.first ≤ values.last) (values_of set) → All (λ values. values.last < VALUES) (values_of set) → AreSmallValues set
+items_small [] ordered within = All-nil (λ values. (values.first ≤ values.last) × (values.last < VALUES))
+items_small (values ∷ set) ordered within = All-cons (λ values. (values.first ≤ values.last) × (values.last < VALUES)) values set
+    (All-head (λ values. values.first ≤ values.last) (plain_values values) (values_of set) ordered, All-head (λ values. values.last < VALUES) (plain_values values) (values_of set) within)
+    (items_small set (All-tail (λ values. values.first ≤ values.last) (plain_values values) (values_of set) ordered) (All-tail (λ values. values.last < VALUES) (plain_values values) (values_of set) within))
+
+-- a set is a small argument where its values are small
+pub small_set_arg : (count : ℕ) (arg : PostArg) (set items : List ReadValues) (small : Bool) → arg ≡ read.Set set → items ≡ set → (IsTrue small ↔ AreSmallValues items) → IsTrue small ↔ IsSmallArg count (plain_arg arg)
+small_set_arg count arg set items small is same test = subst (λ a. IsTrue small ↔ IsSmallArg count (plain_arg a)) (sym is) (
+  λ passes. small_items set (subst AreSmallValues same (test.0 passes)),
+  λ both. test.1 (subst AreSmallValues (sym same) (items_small set both.0 both.1)),
+)
+
+-- and its values are small where it is a small argument
+pub small_arg_set : (count : ℕ) (arg : PostArg) (set items : List ReadValues) → arg ≡ read.Set set → items ≡ set → IsSmallArg count (plain_arg arg) → AreSmallValues items
+small_arg_set count arg set items is same small =
+    let both : IsSmallArg count (plain_arg (read.Set set)) = subst (λ a. IsSmallArg count (plain_arg a)) is small in
+    subst AreSmallValues (sym same) (items_small set both.0 both.1)
+
+-- the argument at a place is small where all are
+pub small_at : (count : ℕ) (args : List PostArg) (i : ℕ) (d : PostArg) → i < length args → All (IsSmallArg count) (args_of args) → IsSmallArg count (plain_arg (get_or args i d))
+small_at count args i d within all =
+    let there : get_or (args_of args) i (plain_arg d) ≡ plain_arg (get_or args i d) = get_or-map plain_arg args i d (plain_arg d) within in
+    subst (IsSmallArg count) there (all i (plain_arg d) (simp length-map within))
+
+-- one argument more of those that were tested
+args_take : (args : List PostArg) (i : ℕ) (d : PostArg) → i < length args → args_of (take (i + 1) args) ≡ args_of (take i args) ++ plain_arg (get_or args i d) ∷ []
+args_take args i d within = ap args_of (take_more args i d within) ∙ map-append plain_arg (take i args) (get_or args i d ∷ [])
+
+pub small_more : (count : ℕ) (args : List PostArg) (i : ℕ) (d : PostArg) → i < length args → All (IsSmallArg count) (args_of (take i args)) → IsSmallArg count (plain_arg (get_or args i d)) → All (IsSmallArg count) (args_of (take (i + 1) args))
+small_more count args i d within all small = subst (All (IsSmallArg count)) (sym (args_take args i d within)) (All-push (IsSmallArg count) (args_of (take i args)) (plain_arg (get_or args i d)) all small)
+
+-- arguments and one more, and those that they are
+args_push : (texts : List ArgText) (text : ArgText) (args : List Arg) (arg : Arg) → AreArgsOf texts args → IsArgOf text arg → AreArgsOf (texts ++ text ∷ []) (args ++ arg ∷ [])
+args_push [] text [] arg are is = (is, tt)
+args_push [] text (a ∷ args) arg are is = absurd are
+args_push (t ∷ texts) text [] arg are is = absurd are
+args_push (t ∷ texts) text (a ∷ args) arg are is = (are.0, args_push texts text args arg are.1 is)
+
+-- one argument more is bound
+pub bound_more : (args : List PostArg) (i : ℕ) (d : PostArg) (bound longer : List Arg) (arg : Arg) → i < length args → AreArgsOf (args_of (take i args)) bound → IsArgOf (plain_arg (get_or args i d)) arg → longer ≡ bound ++ arg ∷ [] → AreArgsOf (args_of (take (i + 1) args)) longer
+bound_more args i d bound longer arg within are is pushed =
+    subst (λ texts. AreArgsOf texts longer) (sym (args_take args i d within))
+    (subst (AreArgsOf (args_of (take i args) ++ plain_arg (get_or args i d) ∷ [])) (sym pushed) (args_push (args_of (take i args)) (plain_arg (get_or args i d)) bound arg are is))
+
+-- places that rise are no more than there are variables
+pub rising_short : (variables : ℕ) (scope : List ℕ) → IsStrictlyIncreasing scope → All (λ place. place < variables) scope → length scope ≤ variables
+rising_short variables [] rising declared = omega arith
+rising_short variables (first ∷ more) rising declared = scope_short variables (first ∷ more) (record { some = omega arith; rising = rising; declared = declared })
+
+-- the kinds of parameters
+abbrev pub kinds_of : List Param → List ParamKind
+kinds_of params = map (λ param. param.kind) params
+
+-- arguments that fit are one for each kind
+pub fit_length : (params : List Param) (args : List PostArg) → FitKinds (kinds_of params) (args_of args) → length params ≡ length args
+fit_length [] [] fit = refl
+fit_length [] (arg ∷ args) fit = absurd fit
+fit_length (param ∷ params) [] fit = absurd fit
+fit_length (param ∷ params) (arg ∷ args) fit = ap suc (fit_length params args fit.1)
+
+-- where not each argument is small, some argument is not
+pub some_large_arg : (count : ℕ) (texts : List ArgText) → (All (IsSmallArg count) texts → ⊥) → Any (λ text. IsSmallArg count text → ⊥) texts
+some_large_arg count texts some = by (dec_any (λ text. IsSmallArg count text → ⊥) (λ text. dec_not (dec_small_arg count text)) texts)
+  where
+    small : (text : ArgText) → ((IsSmallArg count text → ⊥) → ⊥) → IsSmallArg count text
+    small text none = from (dec_small_arg count text)
+      where
+        from : Dec (IsSmallArg count text) → IsSmallArg count text
+        from (yes is) = is
+        from (no large) = absurd (none large)
+
+    by : Dec (Any (λ text. IsSmallArg count text → ⊥) texts) → Any (λ text. IsSmallArg count text → ⊥) texts
+    by (yes large) = large
+    by (no none) = absurd (some (each_from_none (IsSmallArg count) (λ text. IsSmallArg count text → ⊥) small texts none))

@@ -1,0 +1,139 @@
+-- What a good line declares is sound where what was declared before it is.
+use Rattle.std.proofs.Common.{◌≡◌, ℕ, ◌<◌, Bool, true, false, cond, List, [], ◌∷◌, length, find, Option, None, Some, IsSome, is_some, refl, sym, ap, subst, ◌∙◌, true≢false, arith}
+use Rattle.std.specs.Prelude.{All, IfSome, IsTrue}
+use Rattle.std.proofs.lemmas.List.Elements.{All-nil, All-head, All-tail, All-push, All-weaker}
+use Rattle.hk_kinds.specs.Limits.{IsWithinLimit}
+use Rattle.hk_parse.specs.BlockLines.{Part}
+use Rattle.hk_parse.specs.Blocks.{IsPart}
+use Rattle.hk_spec.specs.Arguments.{IsCoefficient, IsArgument, is_number, is_set, is_list, AreArguments, no_arguments, more_arguments}
+use Rattle.hk_spec.specs.Scopes.{is_good_cond}
+use Rattle.hk_spec.specs.Specifications.{Specification, IsSpecification, param_kinds, test_scope}
+use Rattle.hk_spec.specs.declared.arguments.Arg.{Arg}
+use Rattle.hk_spec.specs.declared.arguments.Arg.TheVariants as argument
+use Rattle.hk_spec.specs.declared.parts.ParamKind.{ParamKind}
+use Rattle.hk_spec.specs.declared.parts.ParamKind.TheVariants as param
+use Rattle.hk_model.specs.declared.limits.TheConstants.{COEFFICIENT}
+use Rattle.hk_model.specs.Models.{Declared, nothing_declared, IsGoodLine, good_empty, good_statement, good_post, good_opening, good_inside, good_end}
+use Rattle.hk_parse.specs.BlockLines.{whole_spec}
+use Rattle.hk_model.specs.Posts.{ArgText, Number, Set, Numbers, Post, SaysPost, FitsKind, FitKinds, IsSmallArg, IsArgOf, AreArgsOf, AddsPost}
+use Rattle.hk_model.specs.Problems.{PlainProblem, IsWithin, IsScope, IsPosted, IsValid}
+use Rattle.hk_parse.proofs.PartRules.{begins_valid, good_after_valid, whole_valid, whole_no_best}
+use Rattle.hk_model.proofs.SumSizes.{scope_short}
+use Rattle.hk_model.proofs.Validity.{IsValidSoFar, as_many, named_scope, constraint_valid, statement_valid}
+
+-- a declared specification is valid, and its test doesn't use the bound on the cost
+pub record IsDeclared (s : Specification) : Type 0 where
+  pub rules : IsSpecification s
+  pub no_best : IsTrue (is_good_cond (record (test_scope s) { best = false }) s.test)
+
+-- what is declared so far is valid, and specifications come after the header
+pub record IsSound (declared : Declared) : Type 0 where
+  pub problem : IsValidSoFar declared.problem
+  pub specs : All IsDeclared declared.specs
+  pub block : IfSome declared.block IsPart
+  pub started : IsSome declared.block → IsSome declared.problem
+
+-- before the first line
+pub nothing_sound : IsSound nothing_declared
+nothing_sound = record { problem = tt; specs = All-nil IsDeclared; block = tt; started = λ some. absurd (true≢false (sym some)) }
+
+-- an argument of the form that a kind asks, within its limits, is one of that kind
+argument_valid : (count : ℕ) (kind : ParamKind) (text : ArgText) (arg : Arg) → FitsKind kind text → IsSmallArg count text → IsArgOf text arg → IsArgument count kind arg
+argument_valid count param.Num (Number value) (argument.Num n) fit small is = is_number (subst IsWithinLimit (sym is) (record { least = small.above; most = small.below }))
+argument_valid count param.Num (Number value) (argument.Set bits) fit small is = absurd is
+argument_valid count param.Num (Number value) (argument.Nums ns) fit small is = absurd is
+argument_valid count param.Num (Set set) arg fit small is = absurd fit
+argument_valid count param.Num (Numbers numbers) arg fit small is = absurd fit
+argument_valid count param.Set (Number value) arg fit small is = absurd fit
+argument_valid count param.Set (Set set) (argument.Num n) fit small is = absurd is
+argument_valid count param.Set (Set set) (argument.Set bits) fit small is = is_set is.small
+argument_valid count param.Set (Set set) (argument.Nums ns) fit small is = absurd is
+argument_valid count param.Set (Numbers numbers) arg fit small is = absurd fit
+argument_valid count param.List (Number value) arg fit small is = absurd fit
+argument_valid count param.List (Set set) arg fit small is = absurd fit
+argument_valid count param.List (Numbers numbers) (argument.Num n) fit small is = absurd is
+argument_valid count param.List (Numbers numbers) (argument.Set bits) fit small is = absurd is
+argument_valid count param.List (Numbers numbers) (argument.Nums ns) fit small is = is_list
+    (ap length is ∙ small.1)
+    (subst (All IsCoefficient) (sym is) (All-weaker (IsWithin COEFFICIENT) IsCoefficient (λ n within. record { least = within.above; most = within.below }) numbers small.0))
+
+-- and so are arguments
+arguments_valid : (count : ℕ) (kinds : List ParamKind) (texts : List ArgText) (args : List Arg) → FitKinds kinds texts → All (IsSmallArg count) texts → AreArgsOf texts args → AreArguments count kinds args
+arguments_valid count [] [] [] fit small are = no_arguments
+arguments_valid count [] [] (arg ∷ args) fit small are = absurd are
+arguments_valid count [] (text ∷ texts) args fit small are = absurd fit
+arguments_valid count (kind ∷ kinds) [] args fit small are = absurd fit
+arguments_valid count (kind ∷ kinds) (text ∷ texts) [] fit small are = absurd are
+arguments_valid count (kind ∷ kinds) (text ∷ texts) (arg ∷ args) fit small are = more_arguments
+    (argument_valid count kind text arg fit.0 (All-head (IsSmallArg count) text texts small) are.0)
+    (arguments_valid count kinds texts args fit.1 (All-tail (IsSmallArg count) text texts small) are.1)
+
+-- what each element has, the one that is found has
+found_has : {X : Type 0} (P : X → Type 0) (test : X → Bool) (xs : List X) (x : X) → find test xs ≡ Some x → All P xs → P x
+found_has P test [] x same all = cc
+found_has P test (y ∷ ys) x same all = by (test y) same (λ later. found_has P test ys x later (All-tail P y ys all))
+  where
+    by : (passes : Bool) → cond passes (Some y) (find test ys) ≡ Some x → (find test ys ≡ Some x → P x) → P x
+    by true same later = let first : y ≡ x = cc in subst P first (All-head P y ys all)
+    by false same later = later same
+
+-- the names of a post are some
+names_some : {texts : List (List ℕ)} {post : Post} → SaysPost texts post → 0 < length post.names
+names_some says = let names = ap length says.names.names_are in omega (arith, names)
+
+-- a post that a line says keeps a problem valid
+post_valid : {texts : List (List ℕ)} {specs : List Specification} {post : Post} {before after : PlainProblem} → SaysPost texts post → AddsPost specs post before after → All IsDeclared specs → IsValid before → IsValid after
+post_valid {specs = specs} {post = post} {before = before} says adds declared valid = constraint_valid (scope, posted) adds.adds valid
+  where
+    scope : IsScope (length before.names) adds.scope
+    scope = named_scope adds.names_are (names_some says)
+
+    spec : IsDeclared adds.spec
+    spec = found_has IsDeclared _ specs adds.spec adds.declared declared
+
+    posted : IsPosted (record { spec = adds.spec; args = adds.args; len = length adds.scope }) (length adds.scope)
+    posted = record {
+      rules = record {
+        few = (let short = scope_short (length before.names) adds.scope scope in let most = valid.variables in omega (arith, short, most));
+        rules = spec.rules;
+        arguments = subst (λ count. AreArguments count (param_kinds adds.spec) adds.args) (as_many adds.names_are)
+            (arguments_valid (length post.names) (param_kinds adds.spec) post.args adds.args adds.fit adds.small adds.args_are);
+      };
+      len = refl;
+      no_best = spec.no_best;
+    }
+
+-- no specification is open
+not_open : {block : Option Part} → block ≡ None → IsSome block → ⊥
+not_open out some = true≢false (sym some ∙ ap is_some out)
+
+-- what the open specification has
+part_of : {block : Option Part} {part : Part} → block ≡ Some part → IfSome block IsPart → IsPart part
+part_of is all = subst (λ given. IfSome given IsPart) is all
+
+-- what an open specification says so far is as in a specification
+pub open_part : {declared : Declared} {part : Part} → IsSound declared → declared.block ≡ Some part → IsPart part
+open_part sound is = part_of is sound.block
+
+-- a good line keeps what is declared sound
+pub good_line_sound : {before after : Declared} {line : List ℕ} → IsSound before → IsGoodLine before line after → IsSound after
+good_line_sound sound (good_empty has) = sound
+good_line_sound sound (good_statement has out says declares) =
+    record { problem = statement_valid says declares sound.problem; specs = sound.specs; block = sound.block; started = λ some. absurd (not_open out some) }
+good_line_sound sound (good_post has out says started adds) = record {
+  problem = post_valid says adds sound.specs (subst IsValidSoFar started sound.problem);
+  specs = sound.specs;
+  block = sound.block;
+  started = λ some. refl;
+}
+good_line_sound sound (good_opening has out says started opens) =
+    record { problem = sound.problem; specs = sound.specs; block = begins_valid says.written opens.begins; started = λ some. ap is_some started }
+good_line_sound sound (good_inside has is says good) =
+    record { problem = sound.problem; specs = sound.specs; block = good_after_valid (open_part sound is) says.written good; started = λ some. sound.started (ap is_some is) }
+good_line_sound {before = before} sound (good_end {part = part} {test = test} has is says stands tested) = record {
+  problem = sound.problem;
+  specs = All-push IsDeclared before.specs (whole_spec part test) sound.specs
+      (record { rules = whole_valid (open_part sound is) tested stands.1; no_best = whole_no_best (open_part sound is) tested });
+  block = tt;
+  started = λ some. absurd (true≢false (sym some));
+}

@@ -1,0 +1,8 @@
+use Rattle.std.proofs.Common.{All, take}
+use Rattle.hk_model.specs.Posts.{IsSmallArg}
+use Rattle.hk_model.specs.PostShapes.{args_of}
+use Rattle.hk_model.proofs.binding.are_small_args.Given as goal
+
+-- the arguments so far are small
+abbrev pub invariant-loop-arg : goal.invariant-loop-arg
+invariant-loop-arg l = All (IsSmallArg l.count) (args_of (take l.arg-index l.args))

@@ -1,0 +1,283 @@
+//! What the lines read so far declare, and what one line more declares.
+
+ghost use Rattle.std.specs.Prelude.{◌≡◌, ◌↔◌, ◌⊎◌, ◌∷◌, [], List as Seq, ℕ, length, All, None, Some, IsNone, IfSome, IsSome, IsTrue, OnOk, IfOk, IfErr, codes};
+ghost use Rattle.hk_parse.specs.BlockLines.{MayStand};
+ghost use Rattle.hk_parse.specs.LineTexts.{End};
+ghost use Rattle.hk_text.specs.Lexemes.{IsWord};
+ghost use Rattle.hk_text.specs.Texts.{texts_of};
+ghost use Rattle.hk_text.specs.Tokens.{HasTexts, IsTokenIn};
+ghost use Rattle.hk_model.specs.Declarations.{statement_of};
+ghost use Rattle.hk_model.specs.Faults.{BeginsLater, EndsBlock, IsLineFault, IsPostFaultAfter, IsStatementFault, Posts, as_begin_fault, as_line_fault};
+ghost use Rattle.hk_model.specs.Models.{IsGoodLine, nothing_declared};
+ghost use Rattle.hk_model.specs.Posts.{spec_of};
+ghost use Rattle.hk_model.specs.PostShapes.{plain_post};
+ghost use Rattle.hk_model.specs.Statements.{Declares};
+
+use crate::binding::{post, spec_named};
+use crate::declaring::declare;
+use crate::draft::Draft;
+use crate::faults::LineFault;
+use crate::later::begins_later;
+use crate::limits::SPECIFICATIONS;
+use crate::phrases::{after_text, word_of};
+use crate::posts::{PostShape, post_of};
+use crate::refusal::RefusalKind;
+use crate::shapes::{Shape, shape_of};
+use hk_base::List;
+use hk_parse::{Block, BlockFault};
+use hk_spec::Spec;
+use hk_text::Token;
+use std::alloc::Global;
+use std::marker::Model;
+
+/// What the lines read so far declare: the problem, None before the header; the specifications; and
+/// the specification that isn't ended, where there is one. It is opened after the header.
+#[derive(Drop)]
+pub struct Declared {
+    draft: Option<Draft>,
+    specs: List<Spec>,
+    block: Option<Block>,
+}
+
+impl Model for Declared {
+    ghost use Rattle.std.specs.Prelude.{IsSome};
+    ghost use Rattle.std.specs.Coded.{codes};
+    ghost use Rattle.hk_parse.specs.contracts.blocks.Block as part;
+    ghost use Rattle.hk_spec.specs.contracts.specification.Spec as specification;
+    ghost use Rattle.hk_model.specs.contracts.draft.Draft as problem;
+    ghost use Rattle.hk_model.specs.Models.{Declared};
+
+    ghost Value = { Declared };
+
+    ghost coded = { Prim.hlevel (codes, part.the_row.coded, specification.the_row.coded, problem.the_row.coded) };
+
+    ghost view = { λ d. record { problem = d.draft; specs = d.specs; block = d.block } };
+
+    ghost invariant = { λ d. IsSome d.block → IsSome d.draft };
+}
+
+impl Declared {
+    /// Nothing is declared.
+    pub fn new(alloc: Global) -> Declared
+        ensures { result ≡ nothing_declared }
+    {
+        Declared {
+            draft: None,
+            specs: List::new(alloc),
+            block: None,
+        }
+    }
+
+    /// The problem that is declared, where no specification is open.
+    pub fn finish(self) -> Option<Draft>
+        ensures some { IfSome result (λ draft. (self.problem ≡ Some draft) × (self.block ≡ None)) }
+        ensures none { IsNone result → (self.problem ≡ None) ⊎ IsSome self.block }
+    {
+        let Declared {
+            draft,
+            specs: _,
+            block,
+        } = self;
+        if block.is_some() {
+            return None;
+        }
+        draft
+    }
+
+    /// Takes the tokens of one line.
+    pub fn read(&mut self, alloc: Global, line: &[u8], tokens: &[Token]) -> Result<(), LineFault>
+        requires has { HasTexts line.now (texts_of line.now tokens.now) }
+        requires within { All (IsTokenIn line.now) tokens.now }
+        ensures ok { OnOk result (IsGoodLine self.old line.now self.new) }
+        ensures err { IfErr result (IsLineFault self.old line.now) }
+    {
+        if tokens.is_empty() {
+            return Ok(());
+        }
+        match &mut self.block {
+            None => self.read_outside(alloc, line, tokens),
+            Some(block) => match block.add(alloc, line, tokens) {
+                Ok(true) => self.end(),
+                Ok(false) => Ok(()),
+                Err(fault) => Err(line_fault(fault)),
+            },
+        }
+    }
+
+    /// Whether the header is read.
+    fn is_started(&self) -> bool
+        ensures { IsTrue result ↔ IsSome self.now.problem }
+    {
+        self.draft.is_some()
+    }
+
+    /// Takes the tokens of a line outside of a specification.
+    fn read_outside(
+        &mut self,
+        alloc: Global,
+        line: &[u8],
+        tokens: &[Token],
+    ) -> Result<(), LineFault>
+        requires has { HasTexts line.now (texts_of line.now tokens.now) }
+        requires some { texts_of line.now tokens.now ≡ [] → ⊥ }
+        requires within { All (IsTokenIn line.now) tokens.now }
+        requires outside { self.old.block ≡ None }
+        ensures ok { OnOk result (IsGoodLine self.old line.now self.new) }
+        ensures err { IfErr result (IsLineFault self.old line.now) }
+    {
+        if self.is_later(line, tokens) {
+            return Err(LineFault::Bad(RefusalKind::Later));
+        }
+        if let Some(rest) = after_text(line, tokens, b"post") {
+            return self.read_post(alloc, line, rest);
+        }
+        if after_text(line, tokens, b"spec").is_some() {
+            return self.open(alloc, line, tokens);
+        }
+        match shape_of(alloc, line, tokens) {
+            Ok(Some(shape)) => self.declare(alloc, shape),
+            Ok(None) => Err(LineFault::Bad(RefusalKind::Syntax)),
+            Err(_) => Err(LineFault::NoMemory),
+        }
+    }
+
+    /// Whether the tokens, after the header, begin a statement that isn't read yet.
+    fn is_later(&self, line: &[u8], tokens: &[Token]) -> bool
+        requires { All (IsTokenIn line.now) tokens.now }
+        ensures { IsTrue result ↔ (IsSome self.now.problem × BeginsLater (texts_of line.now tokens.now)) }
+    {
+        self.is_started() && begins_later(line, tokens)
+    }
+
+    /// Declares what a line of this shape says.
+    fn declare(&mut self, alloc: Global, shape: Shape<'_>) -> Result<(), LineFault>
+        requires outside { self.old.block ≡ None }
+        ensures ok { OnOk result (Declares self.old.problem (statement_of shape.entry) self.new.problem × (self.new ≡ record self.old { problem = self.new.problem })) }
+        ensures err { IfErr result (IsStatementFault self.old.problem (statement_of shape.entry)) }
+    {
+        declare(alloc, &mut self.draft, shape)?;
+        Ok(())
+    }
+
+    /// Takes the tokens after `post`, outside of a specification.
+    fn read_post(&mut self, alloc: Global, line: &[u8], tokens: &[Token]) -> Result<(), LineFault>
+        requires has { HasTexts line.now (codes "post" ∷ texts_of line.now tokens.now) }
+        requires within { All (IsTokenIn line.now) tokens.now }
+        requires outside { self.old.block ≡ None }
+        ensures ok { OnOk result (IsGoodLine self.old line.now self.new) }
+        ensures err { IfErr result (IsLineFault self.old line.now) }
+    {
+        match post_of(alloc, line, tokens) {
+            Ok(Some(shape)) => self.post(alloc, shape),
+            Ok(None) => Err(LineFault::Bad(RefusalKind::Syntax)),
+            Err(_) => Err(LineFault::NoMemory),
+        }
+    }
+
+    /// Declares what a post of this shape says.
+    fn post(&mut self, alloc: Global, shape: PostShape<'_>) -> Result<(), LineFault>
+        ensures ok { OnOk result (Posts self.old (plain_post shape.entry) self.new) }
+        ensures err { IfErr result (IsPostFaultAfter self.old (plain_post shape.entry)) }
+    {
+        let Some(draft) = &mut self.draft else {
+            return Err(LineFault::Bad(RefusalKind::Syntax));
+        };
+        post(alloc, draft, self.specs.as_slice(), shape)?;
+        Ok(())
+    }
+
+    /// Opens the specification whose first line has these tokens, of which the first is `spec`.
+    fn open(&mut self, alloc: Global, line: &[u8], tokens: &[Token]) -> Result<(), LineFault>
+        requires has { HasTexts line.now (texts_of line.now tokens.now) }
+        requires within { All (IsTokenIn line.now) tokens.now }
+        requires begins { (rest : Seq (Seq ℕ)) × (texts_of line.now tokens.now ≡ codes "spec" ∷ rest) }
+        requires outside { self.old.block ≡ None }
+        ensures ok { OnOk result (IsGoodLine self.old line.now self.new) }
+        ensures err { IfErr result (IsLineFault self.old line.now) }
+    {
+        if !self.is_started() {
+            return Err(LineFault::Bad(RefusalKind::Syntax));
+        }
+        let block = self.begin(alloc, line, tokens)?;
+        self.block = Some(block);
+        Ok(())
+    }
+
+    /// The specification that a first line with these tokens begins, where its name is no other's and
+    /// there is room for it.
+    fn begin(&self, alloc: Global, line: &[u8], tokens: &[Token]) -> Result<Block, LineFault>
+        requires has { HasTexts line.now (texts_of line.now tokens.now) }
+        requires within { All (IsTokenIn line.now) tokens.now }
+        requires begins { (rest : Seq (Seq ℕ)) × (texts_of line.now tokens.now ≡ codes "spec" ∷ rest) }
+        requires outside { self.now.block ≡ None }
+        requires started { IsSome self.now.problem }
+        ensures ok { IfOk result (λ part. IsGoodLine self.now line.now (record self.now { block = Some part })) }
+        ensures err { IfErr result (IsLineFault self.now line.now) }
+    {
+        let taken = self.is_taken(line, tokens);
+        match Block::begin(alloc, line, tokens) {
+            Ok(_) if taken => Err(LineFault::Bad(RefusalKind::Name)),
+            Ok(_) if self.spec_count() >= SPECIFICATIONS => Err(LineFault::Bad(RefusalKind::Limit)),
+            Ok(block) => Ok(block),
+            Err(fault) => Err(begin_fault(fault, taken)),
+        }
+    }
+
+    /// Whether the token after the first is the name of a specification.
+    fn is_taken(&self, line: &[u8], tokens: &[Token]) -> bool
+        requires { All (IsTokenIn line.now) tokens.now }
+        ensures { (first name : Seq ℕ) (rest : Seq (Seq ℕ)) → texts_of line.now tokens.now ≡ first ∷ name ∷ rest → IsWord name → IsTrue result ↔ IsSome (spec_of self.now.specs name) }
+    {
+        let Some((_, rest)) = tokens.split_first() else {
+            return false;
+        };
+        match word_of(line, rest) {
+            None => false,
+            Some((name, _)) => spec_named(self.specs.as_slice(), name).is_some(),
+        }
+    }
+
+    /// How many specifications are declared.
+    fn spec_count(&self) -> usize
+        ensures { result ≡ length self.now.specs }
+    {
+        self.specs.as_slice().len()
+    }
+
+    /// Ends the specification that is open, where its end may stand.
+    fn end(&mut self) -> Result<(), LineFault>
+        requires { IfSome self.old.block (λ part. MayStand part End) }
+        ensures ok { OnOk result (IfSome self.old.block (λ part. EndsBlock self.old part self.new)) }
+        ensures err { IfErr result (λ fault. fault ≡ LineFault.NoMemory) }
+    {
+        let Some(block) = self.block.take() else {
+            return Ok(());
+        };
+        self.specs
+            .push(block.finish())
+            .map_err(|_| LineFault::NoMemory)?;
+        Ok(())
+    }
+}
+
+/// Why the reader of a model stops, where a first line is bad; its name may be taken as well.
+fn begin_fault(fault: BlockFault, taken: bool) -> LineFault
+    ensures { result ≡ as_begin_fault taken fault }
+{
+    match (fault, taken) {
+        (BlockFault::Limit, true) => LineFault::Bad(RefusalKind::Name),
+        _ => line_fault(fault),
+    }
+}
+
+/// Why the reader of a model stops, where a line of a specification is bad.
+fn line_fault(fault: BlockFault) -> LineFault
+    ensures { result ≡ as_line_fault fault }
+{
+    match fault {
+        BlockFault::Syntax => LineFault::Bad(RefusalKind::Syntax),
+        BlockFault::Name => LineFault::Bad(RefusalKind::Name),
+        BlockFault::Limit => LineFault::Bad(RefusalKind::Limit),
+        BlockFault::Memory => LineFault::NoMemory,
+    }
+}
