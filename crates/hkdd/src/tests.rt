@@ -32,6 +32,20 @@ const LARGE: &str = "hkm 1\nvar x in 0..1\nvar y in 0..1\nsum (1000001*x, 1*y) 1
 
 const TURNED: &str = "hkm 1\nvar x in 0..1\nvar y in 0..1\nalldifferent (y, x)\n";
 
+/// Two values that rise, by a specification of that.
+const RISE: &str =
+    "hkm 1\nvar x in 0..3\nvar y in 0..3\nspec rise ()\ndown m Min 0\ntest ((i < 1) or (m < v))\nstep m v\nend\npost rise () (x, y)\n";
+
+const AT_LEAST: &str =
+    "hkm 1\nvar x in 0..2\nspec atleast (num a)\ntest (v >= a)\nend\npost atleast (2) (x)\n";
+
+const TWO_BOUNDS: &str =
+    "hkm 1\nvar x in 0..2\nspec atleast (num a)\ntest (v >= a)\nend\npost atleast (2, 3) (x)\n";
+
+/// Distinct values, by a specification that counts them.
+const NAIVE: &str =
+    "hkm 1\nvar x in 0..1\nspec naive ()\ndown some SomeBits {}\ntest ((card(some) > i) or (v notin some))\nstep some (some | {v})\nend\npost naive () (x)\n";
+
 const TWICE: &str = "hkm 1\nvar x in 0..1\nvar x in 0..1\nalldifferent (x, y)\n";
 
 /// A host with one input, `m`, so many bytes of room for what goes out, and one reading that fails,
@@ -112,7 +126,7 @@ fn pair_ends_with<R: Threads + Sync>(
 /// A command line, the model in `m`, and the status and the text that are due.
 type Row = (&'static str, &'static str, u8, &'static str);
 
-fn rows() -> [Row; 21] {
+fn rows() -> [Row; 26] {
     [
         ("solve m", "hkm 1\n", 0, "solution\n"),
         ("solve m", PAIR, 0, "solution\nx 0\ny 1\n"),
@@ -133,6 +147,16 @@ fn rows() -> [Row; 21] {
         ("solve m", TURNED, 3, "refused line 4 Scope\n"),
         ("solve m", TWICE, 3, "refused line 3 Name\n"),
         ("solve m", "", 3, "refused line 1 Unfinished\n"),
+        ("solve m", RISE, 0, "solution\nx 0\ny 1\n"),
+        ("solve m", AT_LEAST, 0, "solution\nx 2\n"),
+        ("solve m", TWO_BOUNDS, 3, "refused line 6 Name\n"),
+        ("solve m", NAIVE, 0, "solution\nx 0\n"),
+        (
+            "solve m",
+            "hkm 1\nspec s ()\n",
+            3,
+            "refused line 3 Unfinished\n",
+        ),
         ("solve q", PAIR, 4, "read fault\n"),
         ("", PAIR, 2, "usage: hkdd solve FILE\n"),
         ("solve", PAIR, 2, "usage: hkdd solve FILE\n"),
