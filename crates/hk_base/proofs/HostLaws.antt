@@ -124,9 +124,6 @@ pub WriteFaulted-then : (a b c : View) → WriteFaulted a b → SameOutside b c 
 WriteFaulted-then a b c faulted outside = Rose-then _ _ _ faulted outside.write_faults
 
 -- a fault in the last of several calls is a fault in all of them
-pub then-ReadFaulted : (a b c : View) → SameOutside a b → ReadFaulted b c → ReadFaulted a c
-then-ReadFaulted a b c outside faulted = then-Rose _ _ _ outside.read_faults faulted
-
 pub then-WriteFaulted : (a b c : View) → SameOutside a b → WriteFaulted b c → WriteFaulted a c
 then-WriteFaulted a b c outside faulted = then-Rose _ _ _ outside.write_faults faulted
 

@@ -10,7 +10,9 @@ use Rattle.hk_base.specs.declared.calls.CallKind.TheVariants.{Opening, Reading, 
 use Rattle.hk_base.specs.Calls.{one_more}
 use Rattle.hk_base.specs.Hosts.{largest_count, OpeningFaulted, ReadFaulted, WriteFaulted, Rose, NeverFell, MovedNothing, Opened, Opens, Took, Reads, Wrote, Writes, IsNamed, CanRead, CanWrite}
 use Rattle.hk_base.specs.Inputs.{told_of}
-use Rattle.hk_base.specs.Memory.{Memory, view_of, FaultsFit, OpensExactly, ReadsExactly, WritesExactly, opened_by, after_call, OpeningFails, output_of, with_output, with_opening_fault, with_read_fault, with_write_fault, with_left, bytes_left}
+use Rattle.hk_base.specs.Memory.{Memory, view_of, OpensExactly, ReadsExactly, WritesExactly, opened_by, after_call, OpeningFails, output_of, with_output, with_opening_fault, with_read_fault, with_write_fault, with_left, bytes_left}
+use Rattle.hk_base.specs.inside.FaultCounts.{FaultsFit}
+use Rattle.hk_base.specs.Outputs.{Written}
 use Rattle.hk_base.proofs.FaultLaws.{NeverFell-same}
 use Rattle.hk_base.proofs.HostLaws.{SameOutside-quiet}
 use Rattle.hk_base.proofs.SlotLaws.{same_slots}
@@ -165,6 +167,13 @@ wrote-view m Out bytes can = record {
   written = same_slots _ _ refl refl refl refl;
 }
 
+-- what is written counts no fault
+quiet_output : (m : Memory) (slot : Slot) (output : Written) → (with_output (after_call m Writing) slot output).write_faults ≡ m.write_faults
+quiet_output m Model output = refl
+quiet_output m CertIn output = refl
+quiet_output m CertOut output = refl
+quiet_output m Out output = refl
+
 pub Writes-exactly : (old : Memory) (slot : Slot) (bytes : List ℕ) (answer : Result ℕ Failed) (new : Memory) → CanWrite (view_of old) slot → 0 < length bytes → FaultsFit old → WritesExactly old slot bytes answer new → Writes (view_of old) slot bytes answer (view_of new)
 Writes-exactly old slot bytes (Ok count) new can some fit exactly =
     let P : Memory → Type 0 = λ m. Wrote slot bytes (view_of old) (view_of m) in
@@ -174,6 +183,7 @@ Writes-exactly old slot bytes (Ok count) new can some fit exactly =
       some = omega arith;
       within = omega arith;
       wrote = subst Q (sym (take_all count bytes (omega arith))) (subst P (sym exactly.written) (wrote-view old slot bytes can));
+      quiet = ap (λ (m : Memory). m.write_faults) exactly.written ∙ quiet_output old slot _;
       moved_nothing = tt;
       faulted = tt;
     }
@@ -184,6 +194,7 @@ Writes-exactly old slot bytes (Err _) new can some fit exactly =
       some = tt;
       within = tt;
       wrote = tt;
+      quiet = tt;
       moved_nothing = subst P (sym exactly.failed) (write_fault (after_call old Writing) fit);
       faulted = subst Q (sym exactly.failed) (Rose-one_more old.write_faults fit.1);
     }

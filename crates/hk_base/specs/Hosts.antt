@@ -173,11 +173,12 @@ pub record Reads (old : View) (slot : Slot) (answer : Result ℕ Failed) (buffer
   pub moved_nothing : OnErr answer (MovedNothing old new)
   pub faulted : OnErr answer (ReadFaulted old new)
 
--- what a writing of bytes does: the first of them go out, at least one, or it fails, moves nothing and has the count of faults rise
+-- what a writing of bytes does: the first of them go out, at least one, and the count of faults stays, or it fails, moves nothing and has the count of faults rise
 pub record Writes (old : View) (slot : Slot) (bytes : List ℕ) (answer : Result ℕ Failed) (new : View) : Type 0 where
   pub some : IfOk answer (λ count. 1 ≤ count)
   pub within : IfOk answer (λ count. count ≤ length bytes)
   pub wrote : IfOk answer (λ count. Wrote slot (take count bytes) old new)
+  pub quiet : OnOk answer (new.write_faults ≡ old.write_faults)
   pub moved_nothing : OnErr answer (MovedNothing old new)
   pub faulted : OnErr answer (WriteFaulted old new)
 

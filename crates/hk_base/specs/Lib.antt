@@ -1,7 +1,9 @@
 pub mod Calls
 pub mod Hosts
 pub mod Inputs
+pub mod Limits
 pub mod Lists
 pub mod Memory
 pub mod Outputs
 pub mod Sets
+pub mod inside

@@ -8,7 +8,7 @@ use Rattle.hk_base.specs.declared.calls.CallKind.TheVariants.{Opening, Reading, 
 use Rattle.hk_base.specs.declared.calls.Calls.{Calls}
 use Rattle.hk_base.specs.declared.inputs.Input.{Input}
 use Rattle.hk_base.specs.Calls.{NextFails, counted, failing_at, one_more}
-use Rattle.hk_base.specs.Hosts.{View, IsInput, largest_count}
+use Rattle.hk_base.specs.Hosts.{View, IsInput}
 use Rattle.hk_base.specs.Inputs.{told_of}
 use Rattle.hk_base.specs.Outputs.{Written}
 
@@ -142,10 +142,6 @@ abbrev pub after_call : Memory → CallKind → Memory
 after_call m Opening = record m { openings = counted m.openings }
 after_call m Reading = record m { readings = counted m.readings }
 after_call m Writing = record m { writings = counted m.writings }
-
--- the counts of faults are within the largest count
-abbrev pub FaultsFit : Memory → Type 0
-FaultsFit m = (m.read_faults ≤ largest_count) × (m.write_faults ≤ largest_count)
 
 -- an opening, exactly: when it fails, and the memory after it
 pub record OpensExactly (old : Memory) (slot : Slot) (name : List ℕ) (answer : Result (Unit {0}) Failed) (new : Memory) : Type 0 where

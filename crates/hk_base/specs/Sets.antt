@@ -1,3 +1,4 @@
+-- Sets of values as numbers: what a set has.
 use Rattle.std.specs.Prelude.{◌≡◌, ℕ}
 use Rattle.std.specs.Int.{bit_at}
 

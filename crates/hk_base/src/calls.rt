@@ -1,3 +1,5 @@
+//! How many calls of one kind a host in memory had, and which are to fail.
+
 ghost use Rattle.std.specs.Prelude.{◌≡◌, ◌↔◌, [], IsTrue, OnOk, OnErr};
 ghost use Rattle.hk_base.specs.Calls.{NextFails, counted, failing_at};
 

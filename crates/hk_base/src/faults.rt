@@ -1,3 +1,5 @@
+//! Counts of faults.
+
 ghost use Rattle.std.specs.Prelude.{◌≡◌};
 ghost use Rattle.hk_base.specs.Calls.{one_more};
 ghost use Rattle.hk_base.specs.Hosts.{IsHigher};

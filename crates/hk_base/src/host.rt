@@ -1,3 +1,5 @@
+//! The outside of a program, as a trait: what is opened, read and written.
+
 ghost use Rattle.std.specs.Prelude.{◌≡◌, ◌<◌, ◌↔◌, true, length, IsTrue};
 ghost use Rattle.hk_base.specs.declared.host.Slot.TheVariants.{Out};
 ghost use Rattle.hk_base.specs.Hosts.{View, Opens, Reads, Writes, CanRead, CanWrite, IsNamed};

@@ -1,3 +1,5 @@
+//! The named inputs of a host in memory, and reading on in one of them.
+
 ghost use Rattle.std.specs.Prelude.{◌≡◌, ◌<◌, ◌≤◌, ◌+◌, length, min, reverse, Some, None, take, drop, IfSome, IfNone, IfOk};
 ghost use Rattle.hk_base.specs.Inputs.{told_of, bytes_at, left_of, IsWithin};
 

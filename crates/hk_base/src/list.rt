@@ -1,3 +1,5 @@
+//! Lists that grow at their end.
+
 ghost use Rattle.std.specs.Prelude.{◌≡◌, ℕ, [], ◌∷◌, ◌++◌, length, IfNone, IfSome, OnOk, OnErr};
 
 use std::alloc::{AllocError, Global};

@@ -1,8 +1,11 @@
+//! A host whose inputs and outputs stand in memory.
+
 ghost use Rattle.std.specs.Prelude.{◌≡◌, ◌<◌, ◌+◌, ◌↔◌, [], ◌++◌, length, drop, reverse, min, refl, Some, None, IfOk, IfSome, OnOk, OnErr, IsErr, IsTrue};
 ghost use Rattle.hk_base.specs.Calls.{one_more};
 ghost use Rattle.hk_base.specs.Hosts.{View, Opens, Reads, Writes, CanRead, CanWrite, IsNamed, IsOutput};
 ghost use Rattle.hk_base.specs.Inputs.{told_of, left_of, IsWithin};
-ghost use Rattle.hk_base.specs.Memory.{Memory, view_of, empty_memory, holding, failing, output_of, with_output, FaultsFit, OpensExactly, ReadsExactly, WritesExactly};
+ghost use Rattle.hk_base.specs.Memory.{Memory, view_of, empty_memory, holding, failing, output_of, with_output, OpensExactly, ReadsExactly, WritesExactly};
+ghost use Rattle.hk_base.specs.inside.FaultCounts.{FaultsFit};
 
 use crate::calls::{CallKind, Calls};
 use crate::faults::fault;

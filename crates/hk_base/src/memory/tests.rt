@@ -1,3 +1,5 @@
+//! Rows of a host in memory: what is read, written and refused.
+
 ghost use Rattle.std.specs.Prelude.{◌<◌, length, IsTrue};
 ghost use Rattle.hk_base.specs.declared.host.Slot.TheVariants.{Model};
 ghost use Rattle.hk_base.specs.Hosts.{View};
@@ -46,5 +48,28 @@ fn reads_and_writes(rt: HostRuntime) -> Result<(), Fail> {
     assert!(rt; host.write(Slot::Out, b"ve").is_err());
     assert_eq!(rt; host.written(Slot::Out), b"sol".as_slice());
     Open.enter(1);
+    Ok(())
+}
+
+// How many bytes come back of a list and of an output that get so many and one more.
+fn sizes_of(alloc: Global, size: usize) -> Result<(usize, usize), Fail> {
+    let mut bytes = Vec::new(alloc);
+    bytes.resize(size, b'x')?;
+    let mut list = List::new(alloc);
+    list.push_all(bytes.as_slice())?;
+    list.push(b'y')?;
+    let mut host = MemoryHost::new(alloc);
+    host.put("", list.as_slice())?;
+    host.room(Slot::Out, size)?;
+    host.fail(CallKind::Writing, 2)?;
+    write_all(&mut host, Slot::Out, bytes.as_slice())?;
+    Ok((list.as_slice().len(), host.written(Slot::Out).len()))
+}
+
+#[test]
+fn takes_no_bytes_and_many(rt: HostRuntime) -> Result<(), Fail> {
+    for (size, longer) in [(0, 1), (1, 2), (1_048_577, 1_048_578)] {
+        assert_eq!(rt; sizes_of(rt.alloc(), size)?, (longer, size));
+    }
     Ok(())
 }
