@@ -1,3 +1,5 @@
+//! The names of cells.
+
 ghost use Rattle.std.specs.Prelude.{◌≡◌, ℕ};
 
 use std::alloc::AllocError;

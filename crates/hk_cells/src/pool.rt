@@ -1,3 +1,5 @@
+//! Pools: rows of cells of one type.
+
 ghost use Rattle.std.specs.Prelude.{◌≡◌, ◌+◌, ◌<◌, ◌^◌, ◌++◌, [], length, replicate, slice_index_or, slice_set, OnOk, OnErr};
 
 use crate::id::Id;

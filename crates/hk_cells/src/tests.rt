@@ -1,3 +1,5 @@
+//! Rows of pools: of no cells, of one and of many.
+
 ghost use Rattle.std.specs.Prelude.{◌≡◌, ◌<◌};
 
 use crate::pool::Pool;
@@ -33,5 +35,15 @@ fn changed<L: Ledger>(alloc: Global, blank: Blank) -> Result<Option<[i64; 5]>, F
 fn a_write_changes_its_cell_alone(rt: HostRuntime) -> Result<(), Fail> {
     let held = changed::<Brand>(rt.alloc(), Blank::new(1))?;
     assert_eq!(rt; held, Some([7, 40, 7, -1, -1]));
+    Ok(())
+}
+
+#[test]
+fn a_pool_grows_by_none_and_by_many(rt: HostRuntime) -> Result<(), Fail> {
+    for cells in [0, 1, 1_000_000] {
+        let mut pool = Pool::new(rt.alloc());
+        pool.grow(cells, 7i64)?;
+        assert_eq!(rt; pool.len(), cells);
+    }
     Ok(())
 }

@@ -1,3 +1,4 @@
+-- Sets of values as numbers: what a set has, and a set with one value taken away.
 use Rattle.std.specs.Prelude.{◌≡◌, ◌≢◌, ℕ, ◌<◌}
 use Rattle.std.specs.Int.{bit_at}
 use Rattle.hk_base.specs.Sets.{Has}
@@ -17,7 +18,7 @@ pub record HasSeveral (set : ℕ) : Type 0 where
   pub has_low : Has set low
   pub has_high : Has set high
 
--- a set without one value, and with all others that it had
+-- a set without one value, and with all other bits as they were
 pub record IsWithout (set value rest : ℕ) : Type 0 where
   pub gone : bit_at rest value ≡ 0
-  pub others : (other : ℕ) → other < 128 → other ≢ value → bit_at rest other ≡ bit_at set other
+  pub others : (other : ℕ) → other ≢ value → bit_at rest other ≡ bit_at set other

@@ -1,4 +1,6 @@
-ghost use Rattle.std.specs.Prelude.{◌≡◌, ◌<◌, ◌∷◌, length, slice_set, OnOk, OnErr};
+//! Calls of a store by who keeps no count of the steps.
+
+ghost use Rattle.std.specs.Prelude.{◌≡◌, ◌<◌, ◌∷◌, length, slice_index, slice_set, IsOk, OnOk, OnErr};
 ghost use Rattle.hk_trail.specs.Pools.{HasSizes};
 
 use hk_cells::{Id, Steps};
@@ -39,6 +41,7 @@ fn set_counted<L: Ledger>(
     requires some { 0 < blank.parts }
     requires place { id < length store.old.content.bits }
     ensures content { OnOk result (store.new.content ≡ record store.old.content { bits = slice_set store.old.content.bits id value }) }
+    ensures equal { slice_index store.old.content.bits id ≡ value → IsOk result × (store.new ≡ store.old) }
     ensures stack { store.new.stack ≡ store.old.stack }
     ensures refused { OnErr result (store.new ≡ store.old) }
 {
@@ -50,6 +53,7 @@ fn set_counted<L: Ledger>(
 pub(crate) fn set_bits(store: &mut Store, id: Id<u128>, value: u128) -> Result<(), AllocError>
     requires { id < length store.old.content.bits }
     ensures content { OnOk result (store.new.content ≡ record store.old.content { bits = slice_set store.old.content.bits id value }) }
+    ensures equal { slice_index store.old.content.bits id ≡ value → IsOk result × (store.new ≡ store.old) }
     ensures stack { store.new.stack ≡ store.old.stack }
     ensures refused { OnErr result (store.new ≡ store.old) }
 {

@@ -1,4 +1,6 @@
-ghost use Rattle.std.specs.Prelude.{◌≡◌, ℕ, ◌+◌, ◌<◌, ◌≤◌, ◌^◌, ◌∷◌, [], length, slice_index, slice_set, IfOk, IfSome, IfNone, OnOk, OnErr, Some};
+//! The sets of values of all variables, with levels.
+
+ghost use Rattle.std.specs.Prelude.{◌≡◌, ℕ, ◌+◌, ◌<◌, ◌≤◌, ◌^◌, ◌∷◌, [], length, slice_index, slice_set, IfOk, IfSome, IfNone, IsOk, OnOk, OnErr, Some};
 ghost use Rattle.hk_base.specs.Sets.{Has};
 ghost use Rattle.hk_domains.specs.Values.{HasSeveral, IsOnlyValue, IsWithout};
 
@@ -19,14 +21,14 @@ pub struct Domains {
 }
 
 impl Model for Domains {
-    ghost use Rattle.std.specs.Prelude.{◌≡◌, length, map};
-    ghost use Rattle.hk_domains.specs.Domains.{DomainLevels};
+    ghost use Rattle.std.specs.Prelude.{map};
+    ghost use Rattle.hk_domains.specs.Domains.{DomainLevels, HoldsSets};
 
     ghost Value = { DomainLevels };
 
     ghost view = { λ d. record { sets = d.store.content.bits; stack = map (λ content. content.bits) d.store.stack } };
 
-    ghost invariant = { λ d. length d.store.content.bits ≡ d.count };
+    ghost invariant = { λ d. HoldsSets d.count d.store };
 }
 
 impl Domains {
@@ -46,11 +48,12 @@ impl Domains {
         })
     }
 
-    /// The set of a variable.
+    /// The set of a variable, which has values from 0 to 127 alone.
     #[inline]
     pub fn values(&self, var: u16) -> u128
         requires { var < length self.now.sets }
-        ensures { result ≡ slice_index self.now.sets var }
+        ensures set { result ≡ slice_index self.now.sets var }
+        ensures within { result < 2 ^ 128 }
     {
         self.store.get_bits(self.store.bits_id(var as u32))
     }
@@ -79,12 +82,14 @@ impl Domains {
         None
     }
 
-    /// Takes a value from a variable's set, where it is there. Where memory is refused nothing changes.
+    /// Takes a value from a variable's set, and nothing else. Where the set doesn't have the value the
+    /// call changes nothing, and where memory is refused nothing changes either.
     pub fn remove(&mut self, var: u16, value: u8) -> Result<(), AllocError>
         requires var { var < length self.old.sets }
         requires value { value < 128 }
         ensures removed { OnOk result (IsWithout (slice_index self.old.sets var) value (slice_index self.new.sets var)) }
         ensures others { OnOk result (self.new.sets ≡ slice_set self.old.sets var (slice_index self.new.sets var)) }
+        ensures absent { ¬ Has (slice_index self.old.sets var) value → IsOk result × (self.new ≡ self.old) }
         ensures stack { self.new.stack ≡ self.old.stack }
         ensures refused { OnErr result (self.new ≡ self.old) }
     {
@@ -92,13 +97,16 @@ impl Domains {
         self.set(var, rest)
     }
 
-    /// Keeps one value alone of a variable's set. Where memory is refused nothing changes.
+    /// Keeps one value alone of a variable's set. Where the set has no other the call changes nothing,
+    /// and where memory is refused nothing changes either.
     pub fn fix(&mut self, var: u16, value: u8) -> Result<(), AllocError>
         requires var { var < length self.old.sets }
         requires value { value < 128 }
         requires there { Has (slice_index self.old.sets var) value }
         ensures fixed { OnOk result (IsOnlyValue (slice_index self.new.sets var) value) }
+        ensures exact { OnOk result (slice_index self.new.sets var ≡ 2 ^ value) }
         ensures others { OnOk result (self.new.sets ≡ slice_set self.old.sets var (slice_index self.new.sets var)) }
+        ensures already { slice_index self.old.sets var ≡ 2 ^ value → IsOk result × (self.new ≡ self.old) }
         ensures stack { self.new.stack ≡ self.old.stack }
         ensures refused { OnErr result (self.new ≡ self.old) }
     {
@@ -112,7 +120,8 @@ impl Domains {
         ensures stack { OnOk result (self.new.stack ≡ self.old.sets ∷ self.old.stack) }
         ensures refused { OnErr result (self.new ≡ self.old) }
     {
-        self.store.push()
+        self.store.push()?;
+        Ok(())
     }
 
     /// Closes the highest level: all sets are those at its push. It takes no memory.
@@ -127,10 +136,12 @@ impl Domains {
     fn set(&mut self, var: u16, set: u128) -> Result<(), AllocError>
         requires { var < length self.old.sets }
         ensures sets { OnOk result (self.new.sets ≡ slice_set self.old.sets var set) }
+        ensures equal { slice_index self.old.sets var ≡ set → IsOk result × (self.new ≡ self.old) }
         ensures stack { self.new.stack ≡ self.old.stack }
         ensures refused { OnErr result (self.new ≡ self.old) }
     {
         let id = self.store.bits_id(var as u32);
-        counted::set_bits(&mut self.store, id, set)
+        counted::set_bits(&mut self.store, id, set)?;
+        Ok(())
     }
 }

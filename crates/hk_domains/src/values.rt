@@ -1,11 +1,15 @@
-ghost use Rattle.std.specs.Prelude.{◌≡◌, ℕ, ◌<◌, ◌↔◌, IsTrue, IfSome};
+//! Sets of values as numbers: a set without one value, the set of one value, and what a set has.
+
+ghost use Rattle.std.specs.Prelude.{◌≡◌, ℕ, ◌<◌, ◌^◌, ◌↔◌, IsTrue, IfSome};
+ghost use Rattle.hk_base.specs.Sets.{Has};
 ghost use Rattle.hk_domains.specs.Values.{HasSeveral, IsOnlyValue, IsWithout};
 
-/// A set without a value.
+/// A set without a value, which is the set itself where it doesn't have the value.
 #[inline]
 pub(crate) fn without(set: u128, value: u8) -> u128
     requires { value < 128 }
-    ensures { IsWithout set value result }
+    ensures without { IsWithout set value result }
+    ensures same { ¬ Has set value → result ≡ set }
 {
     set & !(1 << value)
 }
@@ -14,7 +18,8 @@ pub(crate) fn without(set: u128, value: u8) -> u128
 #[inline]
 pub(crate) fn only(value: u8) -> u128
     requires { value < 128 }
-    ensures { IsOnlyValue result value }
+    ensures alone { IsOnlyValue result value }
+    ensures power { result ≡ 2 ^ value }
 {
     1 << value
 }

@@ -11,7 +11,7 @@ use Rattle.hk_trail.specs.Log.{logged_places}
 use Rattle.hk_trail.specs.Marks.{AreMarks, IsStamped, IsKept}
 use Rattle.hk_trail.specs.Places.{has_place, with_place, on_highest}
 use Rattle.hk_trail.proofs.Undoing.{undone-written}
-use Rattle.hk_trail.proofs.Levelling.{with_place-new, with_place-twice}
+use Rattle.hk_trail.proofs.Levelling.{has_place-with_place, with_place-new, with_place-twice}
 
 -- a stamp that was read, with what stands past the end left open
 pub stamp_at : (stamps : List ℕ) (at place stamp : ℕ) → place < length stamps → at ≡ place → stamp ≡ get_or stamps at stamp → stamp ≡ get_or stamps place 0
@@ -54,6 +54,19 @@ logged_places-noted entries [] log stamps place marks same = refl
 logged_places-noted entries (next ∷ below) log stamps place marks same =
     let has : has_place (map (λ e. e.id) (take entries log)) place ≡ true = marks.1.here place ∙ grind (arith, nat_tests) in
     ap (λ places. places ∷ logged_places next below (drop entries log)) (sym (with_place-twice place _ has))
+
+-- where no level is open every cell's stamp is the level
+pub stamp-closed : {T : Type 0} (entries : ℕ) (below : List ℕ) (log : List (Saved T)) (stamps : List ℕ) (place : ℕ) → AreMarks entries below log stamps → length below ≡ 0 → get_or stamps place 0 ≡ length below
+stamp-closed entries [] log stamps place marks closed = marks.2 place
+stamp-closed entries (next ∷ below) log stamps place marks closed = cc
+
+-- a cell that the highest level's part of the log has, or any where no level is open, has the level as its stamp
+pub stamp-noted : {T : Type 0} (entries : ℕ) (below : List ℕ) (log : List (Saved T)) (stamps : List ℕ) (place : ℕ) → AreMarks entries below log stamps → logged_places entries below log ≡ on_highest (with_place place) (logged_places entries below log) → get_or stamps place 0 ≡ length below
+stamp-noted entries [] log stamps place marks same = marks.2 place
+stamp-noted entries (next ∷ below) log stamps place marks same =
+    let kept : map (λ e. e.id) (take entries log) ≡ with_place place (map (λ e. e.id) (take entries log)) = cc in
+    let stamped : nat_eq (get_or stamps place 0) (length below + 1) ≡ true = sym (marks.1.here place) ∙ has_place-with_place place _ kept in
+    grind (arith, nat_tests)
 
 -- neither of two that are not both
 pub neither : (a b : Bool) → (a || b) ≡ false → (a ≡ false) × (b ≡ false)
@@ -131,3 +144,19 @@ IsKept-note cells stamps entry log entries below kept inside other held =
       stamped = omega (arith, kept.stamped, length-set stamps entry.id (length below));
       levels = kept.levels;
     }
+
+-- a stamp that was read is the level where no level is open
+pub read-closed : {T : Type 0} (cells : List T) (stamps : List ℕ) (log : List (Saved T)) (entries : ℕ) (below : List ℕ) (at place stamp level : ℕ) → IsKept cells stamps log entries below → place < length cells → at ≡ place → stamp ≡ get_or stamps at stamp → level ≡ length below → length below ≡ 0 → stamp ≡ level
+read-closed cells stamps log entries below at place stamp level kept inside same read is_level closed =
+    let height : length (reverse below) ≡ length below = length-reverse below in
+    let own : stamp ≡ get_or stamps place 0 = stamp_at stamps at place stamp (omega (arith, kept.stamped)) same read in
+    let last : get_or stamps place 0 ≡ length (reverse below) = stamp-closed entries (reverse below) (reverse log) stamps place kept.marks (height ∙ closed) in
+    omega arith
+
+-- and so it is where the highest level's part of the log has the cell
+pub read-noted : {T : Type 0} (cells : List T) (stamps : List ℕ) (log : List (Saved T)) (entries : ℕ) (below : List ℕ) (at place stamp level : ℕ) → IsKept cells stamps log entries below → place < length cells → at ≡ place → stamp ≡ get_or stamps at stamp → level ≡ length below → logged_places entries (reverse below) (reverse log) ≡ on_highest (with_place place) (logged_places entries (reverse below) (reverse log)) → stamp ≡ level
+read-noted cells stamps log entries below at place stamp level kept inside same read is_level noted =
+    let height : length (reverse below) ≡ length below = length-reverse below in
+    let own : stamp ≡ get_or stamps place 0 = stamp_at stamps at place stamp (omega (arith, kept.stamped)) same read in
+    let last : get_or stamps place 0 ≡ length (reverse below) = stamp-noted entries (reverse below) (reverse log) stamps place kept.marks noted in
+    omega arith

@@ -1,3 +1,4 @@
+-- What contracts see of a store, and of one of its pools.
 use Rattle.std.specs.Prelude.{ℕ, List}
 use Rattle.hk_trail.specs.Pools.{Content}
 use Rattle.hk_trail.specs.Places.{Places}

@@ -1,3 +1,4 @@
+-- The log: what its entries give back to the cells, and which cells each level wrote.
 use Rattle.std.specs.Prelude.{ℕ, List, [], ◌∷◌, take, drop, map, slice_set}
 use Rattle.hk_trail.specs.declared.saved.Saved.{Saved}
 

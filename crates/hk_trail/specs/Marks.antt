@@ -1,3 +1,4 @@
+-- Stamps: what they tell of the log, and what holds of one pool between two calls.
 use Rattle.std.specs.Prelude.{◌≡◌, ℕ, ◌+◌, ◌≤◌, ◌<◌, ◌^◌, List, [], ◌∷◌, take, drop, map, length, reverse, slice_index, nat_eq, All}
 use Rattle.std.specs.List.{IsDistinct}
 use Rattle.hk_trail.specs.declared.saved.Saved.{Saved}

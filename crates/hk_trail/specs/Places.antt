@@ -1,3 +1,4 @@
+-- The cells that a level wrote, by their places.
 use Rattle.std.specs.Prelude.{ℕ, ◌+◌, Bool, List, [], ◌∷◌, length, nat_eq, if◌then◌else◌}
 use Rattle.std.specs.List.{list_any, IsDistinct}
 use Rattle.hk_trail.specs.Pools.{Pools}

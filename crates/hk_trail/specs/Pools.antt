@@ -1,3 +1,4 @@
+-- Things for each of the three pools of a store, and what the pools hold.
 use Rattle.std.specs.Prelude.{◌≡◌, ℕ, ℤ, List, [], ◌∷◌, length}
 
 -- something for each of the three pools of a store

@@ -1,3 +1,5 @@
+//! What a cell can hold.
+
 ghost use Rattle.std.specs.Prelude.{◌≡◌, ◌↔◌, IsTrue};
 
 /// A value that a cell can hold.

@@ -1,3 +1,5 @@
+//! Taking back the latest part of the log.
+
 ghost use Rattle.std.specs.Prelude.{◌≡◌, ◌+◌, ◌<◌, ◌≤◌, All, length, take, drop, reverse, vec_len, vec_capacity};
 ghost use Rattle.hk_trail.specs.Log.{undone};
 

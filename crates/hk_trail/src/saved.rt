@@ -1,3 +1,5 @@
+//! The entries of the log.
+
 use crate::cell::Cell;
 use hk_cells::Id;
 

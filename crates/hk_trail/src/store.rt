@@ -1,3 +1,5 @@
+//! The store: three pools of cells with one stack of levels.
+
 ghost use Rattle.std.specs.Prelude.{◌≡◌, ◌≢◌, ℕ, ℤ, ◌+◌, ◌<◌, ◌≤◌, ◌^◌, ◌++◌, ◌∷◌, ◌⊎◌, [], List, length, replicate, slice_index_or, slice_set, IsOk, OnOk, OnErr};
 ghost use Rattle.hk_trail.specs.Pools.{HasSizes};
 ghost use Rattle.hk_trail.specs.Places.{Places, AreDistinct, cell_count, no_places, with_num, with_bits, with_word, on_highest};
@@ -28,7 +30,7 @@ impl Model for Store {
 
     ghost view = { λ s. record { content = record { nums = s.nums.content; bits = s.bits.content; words = s.words.content }; stack = zipped s.nums.stack s.bits.stack s.words.stack; written = zipped s.nums.written s.bits.written s.words.written; spare = min s.nums.spare (min s.bits.spare s.words.spare) } };
 
-    ghost invariant = { λ s. (length s.nums.stack ≡ length s.bits.stack) × (length s.nums.stack ≡ length s.words.stack) };
+    ghost invariant = { λ s. (length s.nums.stack ≡ length s.bits.stack) × (length s.nums.stack ≡ length s.words.stack) × (length s.nums.written ≡ length s.bits.written) × (length s.nums.written ≡ length s.words.written) };
 }
 
 impl Store {
@@ -153,8 +155,10 @@ impl Store {
     }
 
     /// Makes a cell of `i64` hold `value`. Where it does already the call changes nothing, and where
-    /// memory is refused nothing changes either.
+    /// memory is refused nothing changes either. Where no level is open, or the cell was written while
+    /// the highest one was, the call needs no memory and takes no room.
     #[inline]
+    #[tactic(auto, using(crate::proofs::Zipping::length_zipped))]
     pub fn set_num<L: Ledger>(
         &mut self,
         id: Id<i64>,
@@ -168,6 +172,8 @@ impl Store {
         ensures written { (self.new.written ≡ self.old.written) ⊎ (self.new.written ≡ on_highest (with_num id) self.old.written) }
         ensures changed { slice_index_or self.old.content.nums id value ≢ value → OnOk result (self.new.written ≡ on_highest (with_num id) self.old.written) }
         ensures spared { 0 < self.old.spare → IsOk result }
+        ensures closed { length self.old.stack ≡ 0 → IsOk result × (self.new.spare ≡ self.old.spare) }
+        ensures noted { self.old.written ≡ on_highest (with_num id) self.old.written → IsOk result × (self.new.spare ≡ self.old.spare) }
         ensures spare { self.old.spare ≤ self.new.spare + 1 }
         ensures ticks { steps.new ≤ steps.old + 1 }
         ensures refused { OnErr result (self.new ≡ self.old) }
@@ -176,9 +182,10 @@ impl Store {
     }
 
     /// Makes a cell of `u128` hold `value`. Where it does already the call changes nothing, and where
-    /// memory is refused nothing changes either.
+    /// memory is refused nothing changes either. Where no level is open, or the cell was written while
+    /// the highest one was, the call needs no memory and takes no room.
     #[inline]
-    #[tactic(auto, using(crate::proofs::Zipping::zipped_bits))]
+    #[tactic(auto, using(crate::proofs::Zipping::zipped_bits, crate::proofs::Zipping::bits_noted, crate::proofs::Zipping::length_zipped))]
     pub fn set_bits<L: Ledger>(
         &mut self,
         id: Id<u128>,
@@ -192,6 +199,8 @@ impl Store {
         ensures written { (self.new.written ≡ self.old.written) ⊎ (self.new.written ≡ on_highest (with_bits id) self.old.written) }
         ensures changed { slice_index_or self.old.content.bits id value ≢ value → OnOk result (self.new.written ≡ on_highest (with_bits id) self.old.written) }
         ensures spared { 0 < self.old.spare → IsOk result }
+        ensures closed { length self.old.stack ≡ 0 → IsOk result × (self.new.spare ≡ self.old.spare) }
+        ensures noted { self.old.written ≡ on_highest (with_bits id) self.old.written → IsOk result × (self.new.spare ≡ self.old.spare) }
         ensures spare { self.old.spare ≤ self.new.spare + 1 }
         ensures ticks { steps.new ≤ steps.old + 1 }
         ensures refused { OnErr result (self.new ≡ self.old) }
@@ -200,9 +209,10 @@ impl Store {
     }
 
     /// Makes a cell of `u32` hold `value`. Where it does already the call changes nothing, and where
-    /// memory is refused nothing changes either.
+    /// memory is refused nothing changes either. Where no level is open, or the cell was written while
+    /// the highest one was, the call needs no memory and takes no room.
     #[inline]
-    #[tactic(auto, using(crate::proofs::Zipping::zipped_words))]
+    #[tactic(auto, using(crate::proofs::Zipping::zipped_words, crate::proofs::Zipping::words_noted, crate::proofs::Zipping::length_zipped))]
     pub fn set_word<L: Ledger>(
         &mut self,
         id: Id<u32>,
@@ -216,6 +226,8 @@ impl Store {
         ensures written { (self.new.written ≡ self.old.written) ⊎ (self.new.written ≡ on_highest (with_word id) self.old.written) }
         ensures changed { slice_index_or self.old.content.words id value ≢ value → OnOk result (self.new.written ≡ on_highest (with_word id) self.old.written) }
         ensures spared { 0 < self.old.spare → IsOk result }
+        ensures closed { length self.old.stack ≡ 0 → IsOk result × (self.new.spare ≡ self.old.spare) }
+        ensures noted { self.old.written ≡ on_highest (with_word id) self.old.written → IsOk result × (self.new.spare ≡ self.old.spare) }
         ensures spare { self.old.spare ≤ self.new.spare + 1 }
         ensures ticks { steps.new ≤ steps.old + 1 }
         ensures refused { OnErr result (self.new ≡ self.old) }

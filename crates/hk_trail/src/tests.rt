@@ -1,3 +1,5 @@
+//! Rows of stores: what a pop gives back, in stores of no cells and of many.
+
 ghost use Rattle.std.specs.Prelude.{◌≡◌, ◌+◌, ◌<◌, ◌≤◌, ◌^◌, [], length, OnOk, IfOk};
 ghost use Rattle.hk_trail.specs.Pools.{HasSizes};
 
@@ -145,10 +147,30 @@ fn large<L: Ledger>(
     Ok((num, bits, word))
 }
 
+/// Makes room for as many writes as a store has cells in each pool, opens its first level and closes it,
+/// and gives how many levels were open in between.
+fn opened<L: Ledger>(alloc: Global, blank: Blank, cells: u32) -> Result<u32, AllocError>
+    requires name { blank.name ≡ L.name }
+    requires parts { blank.parts ≡ L.parts }
+    requires some { 0 < blank.parts }
+{
+    let mut steps = Steps::<L>::start(blank);
+    let mut store = make_store(alloc, cells)?;
+    store.reserve(cells)?;
+    store.push()?;
+    let depth = store.depth();
+    store.pop(&mut steps);
+    Ok(depth)
+}
+
 #[test]
 fn a_pop_gives_back_what_a_level_wrote(rt: HostRuntime) -> Result<(), Fail> {
     assert_eq!(rt; undone::<Brand>(rt.alloc(), Blank::new(1))?, 0);
     let held = large::<Brand>(rt.alloc(), Blank::new(1), 1_000_000, 4_000)?;
     assert_eq!(rt; held, (0, 0, 0));
+    for cells in [0, 1, 1_000_000] {
+        let depth = opened::<Brand>(rt.alloc(), Blank::new(1), cells)?;
+        assert_eq!(rt; depth, 1);
+    }
     Ok(())
 }

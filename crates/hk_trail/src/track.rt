@@ -1,3 +1,5 @@
+//! One pool with its log and its levels.
+
 ghost use Rattle.std.specs.Prelude.{◌≡◌, ◌≢◌, ℕ, ◌+◌, ◌<◌, ◌≤◌, ◌^◌, ◌++◌, ◌∷◌, ◌⊎◌, [], List, length, replicate, slice_index_or, slice_set, nat_eq, IsOk, OnOk, OnErr};
 ghost use Rattle.std.specs.List.{IsDistinct};
 ghost use Rattle.hk_trail.specs.Places.{with_place, on_highest};
@@ -150,7 +152,8 @@ impl<T: Cell> Track<T> {
         self.entries = entries;
     }
 
-    /// Makes a cell hold `value`. Where memory is refused nothing changes.
+    /// Makes a cell hold `value`. Where memory is refused nothing changes, and none is asked for where
+    /// `note` needs no entry.
     #[inline]
     pub(crate) fn set<L: Ledger>(
         &mut self,
@@ -165,6 +168,8 @@ impl<T: Cell> Track<T> {
         ensures written { (self.new.written ≡ self.old.written) ⊎ (self.new.written ≡ on_highest (with_place id) self.old.written) }
         ensures changed { slice_index_or self.old.content id value ≢ value → OnOk result (self.new.written ≡ on_highest (with_place id) self.old.written) }
         ensures spared { 0 < self.old.spare → IsOk result }
+        ensures closed { length self.old.stack ≡ 0 → IsOk result × (self.new.spare ≡ self.old.spare) }
+        ensures noted { self.old.written ≡ on_highest (with_place id) self.old.written → IsOk result × (self.new.spare ≡ self.old.spare) }
         ensures spare { self.old.spare ≤ self.new.spare + 1 }
         ensures ticks { steps.new ≤ steps.old + 1 }
         ensures refused { OnErr result (self.new ≡ self.old) }
@@ -178,13 +183,15 @@ impl<T: Cell> Track<T> {
     }
 
     /// Puts what a cell holds into the log, unless the highest level's part has the cell or no level
-    /// is open. Where memory is refused nothing changes.
+    /// is open: then it takes no room, and never fails. Where memory is refused nothing changes.
     fn note(&mut self, id: Id<T>) -> Result<(), AllocError>
         requires { id < length self.old.content }
         ensures content { self.new.content ≡ self.old.content }
         ensures stack { self.new.stack ≡ self.old.stack }
         ensures written { OnOk result (self.new.written ≡ on_highest (with_place id) self.old.written) }
         ensures spared { 0 < self.old.spare → IsOk result }
+        ensures closed { length self.old.stack ≡ 0 → IsOk result × (self.new.spare ≡ self.old.spare) }
+        ensures noted { self.old.written ≡ on_highest (with_place id) self.old.written → IsOk result × (self.new.spare ≡ self.old.spare) }
         ensures spare { self.old.spare ≤ self.new.spare + 1 }
         ensures refused { OnErr result (self.new ≡ self.old) }
     {

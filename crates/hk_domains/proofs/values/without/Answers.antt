@@ -1,7 +1,9 @@
-use Rattle.std.specs.Int.{w128}
-use Rattle.std.proofs.lemmas.Nat.Bits.{bit_at_clear_same, bit_at_clear_other}
+use Rattle.hk_domains.proofs.Counting.{IsWithout-clear, IsWithout-absent}
 use Rattle.hk_domains.proofs.values.without.Goals as goal
 
-pub returns : goal.returns
-returns c =
-    record { gone = bit_at_clear_same w128 c.args.set c.args.value c.requires; others = λ other below apart. bit_at_clear_other w128 c.args.set c.args.value c.requires other below apart }
+pub returns-clause-without : goal.returns-clause-without
+returns-clause-without c = IsWithout-clear c.args.set c.args.value c.ranges.set.fits c.requires
+
+pub returns-clause-same : goal.returns-clause-same
+returns-clause-same c =
+    λ absent. IsWithout-absent c.args.set c.args.value _ (IsWithout-clear c.args.set c.args.value c.ranges.set.fits c.requires) absent

@@ -5,3 +5,6 @@ ghosts-undone g a = record { name = a.blank.name; parts = a.blank.parts }
 
 abbrev pub ghosts-large : goal.ghosts-large
 ghosts-large g a = record { name = a.blank.name; parts = a.blank.parts }
+
+abbrev pub ghosts-opened : goal.ghosts-opened
+ghosts-opened g a = record { name = a.blank.name; parts = a.blank.parts }

@@ -1,9 +1,9 @@
-use Rattle.std.proofs.Common.{◌≡◌, ◌≢◌, ◌<◌, [], ◌∷◌, ◌++◌, length, get_or, sym, ◌∙◌, ap, arith}
+use Rattle.std.proofs.Common.{◌≡◌, ◌≢◌, ◌<◌, [], ◌∷◌, ◌++◌, length, reverse, get_or, sym, ◌∙◌, ap, arith}
 use Rattle.std.proofs.lemmas.List.{length-reverse, reverse-append}
 use Rattle.hk_trail.specs.declared.saved.Saved.{Saved}
 use Rattle.hk_trail.specs.Levels.{PoolLevels}
-use Rattle.hk_trail.proofs.Levelling.{saved_contents-note}
-use Rattle.hk_trail.proofs.Marking.{stamp_at, entries-le, logged_places-note, logged_places-noted, IsKept-note}
+use Rattle.hk_trail.proofs.Levelling.{length-stack, saved_contents-note}
+use Rattle.hk_trail.proofs.Marking.{stamp_at, read-closed, read-noted, entries-le, logged_places-note, logged_places-noted, IsKept-note}
 use Rattle.hk_trail.specs.Places.{on_highest, with_place}
 use Rattle.hk_trail.proofs.track.Track.note.Goals as goal
 
@@ -49,3 +49,35 @@ returns-clause-written g c =
     let entry : Saved g.row.T.Denot = record { id = c.args.id; value = c.get-value.result; stamp = c.index-stamp.result.now } in
     let items : c.push_reserved.new.self.items ≡ c.self.inside.log.items ++ entry ∷ [] = c.push_reserved.ensures.items ∙ ap (λ l. l ++ entry ∷ []) c.reserve.ensures.items in
     rw (items, reverse-append c.self.inside.log.items (entry ∷ [])) (logged_places-note _ _ entry _ _ c.self.invariant.marks (λ same. other (same ∙ length-reverse c.self.inside.below.items)) ∙ ap (on_highest (with_place c.args.id)) written)
+
+pub returns-in_err-reserve-clause-closed : goal.returns-in_err-reserve-clause-closed
+returns-in_err-reserve-clause-closed g c = λ closed.
+    let content = ap (λ (v : PoolLevels g.row.T.Denot). v.content) c.self.view_is in
+    let stack = ap (λ (v : PoolLevels g.row.T.Denot). v.stack) c.self.view_is in
+    let level : c.len-level.result ≡ length c.self.inside.below.items = omega (arith, c.len-level.ensures, c.self.inside.below.ok) in
+    let none : length c.self.inside.below.items ≡ 0 = sym (length-stack c.self.inside.entries c.self.inside.below.items (reverse c.self.inside.log.items) c.self.inside.cells) ∙ (ap length stack ∙ closed) in
+    absurd (c.if-stamp-level.false (read-closed _ _ _ _ _ _ c.args.id _ _ c.self.invariant (omega (arith, ap length content, c.requires)) c.place-at.ensures c.index-stamp.ensures level none))
+
+pub returns-clause-closed : goal.returns-clause-closed
+returns-clause-closed g c = λ closed.
+    let content = ap (λ (v : PoolLevels g.row.T.Denot). v.content) c.self.view_is in
+    let stack = ap (λ (v : PoolLevels g.row.T.Denot). v.stack) c.self.view_is in
+    let level : c.len-level.result ≡ length c.self.inside.below.items = omega (arith, c.len-level.ensures, c.self.inside.below.ok) in
+    let none : length c.self.inside.below.items ≡ 0 = sym (length-stack c.self.inside.entries c.self.inside.below.items (reverse c.self.inside.log.items) c.self.inside.cells) ∙ (ap length stack ∙ closed) in
+    absurd (c.if-stamp-level.false (read-closed _ _ _ _ _ _ c.args.id _ _ c.self.invariant (omega (arith, ap length content, c.requires)) c.place-at.ensures c.index-stamp.ensures level none))
+
+pub returns-in_err-reserve-clause-noted : goal.returns-in_err-reserve-clause-noted
+returns-in_err-reserve-clause-noted g c = λ noted.
+    let content = ap (λ (v : PoolLevels g.row.T.Denot). v.content) c.self.view_is in
+    let written = ap (λ (v : PoolLevels g.row.T.Denot). v.written) c.self.view_is in
+    let level : c.len-level.result ≡ length c.self.inside.below.items = omega (arith, c.len-level.ensures, c.self.inside.below.ok) in
+    let same = written ∙ (noted ∙ ap (on_highest (with_place c.args.id)) (sym written)) in
+    absurd (c.if-stamp-level.false (read-noted _ _ _ _ _ _ c.args.id _ _ c.self.invariant (omega (arith, ap length content, c.requires)) c.place-at.ensures c.index-stamp.ensures level same))
+
+pub returns-clause-noted : goal.returns-clause-noted
+returns-clause-noted g c = λ noted.
+    let content = ap (λ (v : PoolLevels g.row.T.Denot). v.content) c.self.view_is in
+    let written = ap (λ (v : PoolLevels g.row.T.Denot). v.written) c.self.view_is in
+    let level : c.len-level.result ≡ length c.self.inside.below.items = omega (arith, c.len-level.ensures, c.self.inside.below.ok) in
+    let same = written ∙ (noted ∙ ap (on_highest (with_place c.args.id)) (sym written)) in
+    absurd (c.if-stamp-level.false (read-noted _ _ _ _ _ _ c.args.id _ _ c.self.invariant (omega (arith, ap length content, c.requires)) c.place-at.ensures c.index-stamp.ensures level same))
