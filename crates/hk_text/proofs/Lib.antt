@@ -1,5 +1,6 @@
 pub mod Appending
 pub mod Breaks
+pub mod Deciding
 pub mod Decimals
 pub mod Digits
 pub mod Existence
@@ -10,3 +11,4 @@ pub mod Reading
 pub mod Spans
 pub mod Spelling
 pub mod Splitting
+pub mod TokenTexts

@@ -10,7 +10,7 @@ use Rattle.hk_text.specs.declared.tokenizer.Next.TheVariants.{Found, Quiet, Stuc
 use Rattle.hk_text.specs.declared.tokenizer.TextFault.{TextFault}
 use Rattle.hk_text.specs.declared.tokenizer.TextFault.TheVariants.{NotAscii, BadByte, Memory}
 use Rattle.hk_text.specs.Bytes.{is_blank}
-use Rattle.hk_text.specs.Steps.{ComesNext, IsFaultAt}
+use Rattle.hk_text.specs.inside.Steps.{ComesNext, IsFaultAt}
 use Rattle.hk_text.specs.Tokens.{IsQuiet, IsBadByte, IsFaultOf}
 use Rattle.hk_text.proofs.Fronts.{list_all-front}
 

@@ -3,6 +3,6 @@ pub mod Lexemes
 pub mod Lines
 pub mod Numbers
 pub mod Sets
-pub mod Steps
 pub mod Texts
 pub mod Tokens
+pub mod inside

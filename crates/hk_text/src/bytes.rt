@@ -1,3 +1,5 @@
+//! What a byte can be in a line: a blank, a part of a word, a symbol.
+
 ghost use Rattle.std.specs.Prelude.{◌≡◌};
 ghost use Rattle.hk_text.specs.Bytes.{is_blank, is_word_start, is_word_byte, is_symbol_byte, is_symbol_pair};
 

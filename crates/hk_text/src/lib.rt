@@ -3,6 +3,7 @@
 //! written by them.
 #![tactic(auto)]
 
+pub use beginnings::{after_text, is_word, number_of, word_of};
 pub use lexemes::TokenKind;
 pub use lines::split_line;
 pub use numbers::{number_up_to, push_number, push_unsigned};
@@ -11,6 +12,7 @@ pub use sets::{push_set, push_values};
 pub use texts::{has_text, text_of};
 pub use tokenizer::{TextFault, Token, tokens};
 
+mod beginnings;
 mod bytes;
 mod lexemes;
 mod lines;

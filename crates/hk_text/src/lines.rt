@@ -1,3 +1,5 @@
+//! A text line by line.
+
 ghost use Rattle.std.specs.Prelude.{◌≡◌, ◌<◌, ◌≤◌, ◌==◌, ◌∷◌, not, length};
 ghost use Rattle.std.specs.List.{prefix_len};
 ghost use Rattle.hk_text.specs.Lines.{lines};

@@ -1,3 +1,5 @@
+//! Numbers in decimal: read from a text, and written.
+
 ghost use Rattle.std.specs.Prelude.{◌≡◌, ◌≤◌, ◌<◌, ◌^◌, ◌++◌, ℕ, drop, length, IfSome, IsNone, IsTrue, ◌↔◌, OnOk, OnErr};
 ghost use Rattle.std.specs.Fmt.{decimal, signed_decimal};
 ghost use Rattle.hk_text.specs.Numbers.{IsNumber, IsNumberUpTo, IsPlain};

@@ -1,3 +1,5 @@
+//! The law that each line is read in one way.
+
 ghost use Rattle.std.specs.Prelude.{◌≡◌, ◌⊎◌, ℕ, List};
 ghost use Rattle.hk_text.specs.declared.tokenizer.Token.{Token};
 ghost use Rattle.hk_text.specs.Tokens.{AreTokensOf, IsBadByte};

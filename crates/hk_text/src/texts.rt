@@ -1,3 +1,5 @@
+//! The bytes of a token, and whether they are a given text.
+
 ghost use Rattle.std.specs.Prelude.{◌≡◌, ◌↔◌, IsTrue};
 ghost use Rattle.hk_text.specs.Texts.{IsWithin, text_of};
 

@@ -1,8 +1,10 @@
+//! The tokens of a line, and why a line has none.
+
 ghost use Rattle.std.specs.Prelude.{◌≡◌, ◌+◌, ◌≤◌, ◌∷◌, false, length, IfOk, IfErr};
 ghost use Rattle.std.specs.List.{prefix_len, All};
 ghost use Rattle.hk_text.specs.Bytes.{is_blank};
 ghost use Rattle.hk_text.specs.Lexemes.{IsLexeme};
-ghost use Rattle.hk_text.specs.Steps.{ComesNext, IsFaultAt};
+ghost use Rattle.hk_text.specs.inside.Steps.{ComesNext, IsFaultAt};
 ghost use Rattle.hk_text.specs.Texts.{IsWithin, text_of};
 ghost use Rattle.hk_text.specs.Tokens.{AreTokensOf, IsFaultOf};
 
