@@ -3,7 +3,7 @@ use Rattle.std.proofs.Common.{◌≡◌, ℕ, ℤ, true, ◌≤ℤ◌, ◌<◌, 
 use Rattle.std.proofs.lemmas.Nat.{or_lt, and_le_l}
 use Rattle.std.specs.Int.{bit_at}
 use Rattle.std.proofs.lemmas.Bool.{cases_lt}
-use Rattle.hk_kinds.specs.declared.limits.TheConstants.{LIM}
+use Rattle.hk_base.specs.Limits.{number_limit}
 use Rattle.std.proofs.lemmas.Int.{ints, clamps}
 use Rattle.std.proofs.lemmas.Nat.Bits.{bit_at_and, bit_at_or, bit_at_above, bit_at_ones, bit_at-lt, bit_at-zero, same_from_bits}
 use Rattle.std.specs.Int.{int_max, int_min}
@@ -36,10 +36,10 @@ max_within a b h k = record { least = omega (arith, ints, clamps); most = omega 
 and_within : (a b : ℕ) → IsSet a → IsSet (bit_and a b)
 and_within a b h = omega (arith, and_le_l a b)
 
-pub least_within : IsWithinLimit (neg_ℤ LIM)
+pub least_within : IsWithinLimit (neg_ℤ number_limit)
 least_within = record { least = omega (arith, ints); most = omega (arith, ints) }
 
-pub most_within : IsWithinLimit LIM
+pub most_within : IsWithinLimit number_limit
 most_within = record { least = omega (arith, ints); most = omega (arith, ints) }
 
 -- the set of all values has each value of a set

@@ -1,3 +1,4 @@
+-- When a property or a state covers another.
 use Rattle.std.specs.Prelude.{ℕ, ℤ, Bool, true, false, ◌&&◌, ◌==◌, ◌≤ℤ◌, int_le, List, [], ◌∷◌, bit_and, bit_or}
 use Rattle.hk_kinds.specs.Sets.{IsSubset}
 use Rattle.hk_kinds.specs.declared.kinds.Kind.{Kind}

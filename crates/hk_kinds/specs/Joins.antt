@@ -1,3 +1,4 @@
+-- The joins of properties and of states.
 use Rattle.std.specs.Prelude.{List, [], ◌∷◌, bit_and, bit_or}
 use Rattle.std.specs.Int.{int_max, int_min}
 use Rattle.hk_kinds.specs.declared.kinds.Kind.{Kind}

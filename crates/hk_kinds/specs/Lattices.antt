@@ -1,3 +1,4 @@
+-- What a lattice is.
 use Rattle.std.specs.Prelude.{◌≡◌, Bool, true}
 
 -- the join of two valid values covers both and is covered by all that cover both;

@@ -1,3 +1,4 @@
+-- The order of properties and of states.
 use Rattle.std.specs.Prelude.{List}
 use Rattle.std.specs.Ordering.{int_cmp, nat_cmp, ordering_then}
 use Rattle.std.specs.Cmp.Lexicographic.{slice_cmp}

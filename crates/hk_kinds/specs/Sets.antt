@@ -1,3 +1,4 @@
+-- Sets of values.
 use Rattle.std.specs.Prelude.{ℕ, ◌^◌, ◌<◌}
 use Rattle.hk_base.specs.Sets.{Has}
 

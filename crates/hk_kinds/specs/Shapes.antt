@@ -1,3 +1,4 @@
+-- Which properties a shape asks of a state.
 use Rattle.std.specs.Prelude.{ℕ, ℤ, List, [], ◌∷◌}
 use Rattle.hk_kinds.specs.Limits.{IsWithinLimit}
 use Rattle.hk_kinds.specs.Sets.{IsSet}
@@ -6,7 +7,7 @@ use Rattle.hk_kinds.specs.declared.kinds.Kind.TheVariants.{Min, Max, Interval, S
 use Rattle.hk_kinds.specs.declared.properties.Prop.{Prop}
 use Rattle.hk_kinds.specs.declared.properties.Prop.TheVariants.{Num, Pair, Bits}
 
--- the property is one of the kind: a number, two numbers or a set, with its numbers in -LIM..LIM
+-- the property is one of the kind: a number, two numbers or a set, with its numbers within the limit
 pub data IsOfKind : Kind → Prop → Type 0 where
   is_min : {n : ℤ} → IsWithinLimit n → IsOfKind Min (Num n)
   is_max : {n : ℤ} → IsWithinLimit n → IsOfKind Max (Num n)

@@ -1,3 +1,4 @@
+//! The kinds of properties.
 ghost use Rattle.std.specs.Prelude.{◌≡◌};
 ghost use Rattle.hk_kinds.specs.Tops.{top_property};
 
@@ -6,14 +7,22 @@ use crate::properties::Prop;
 
 /// How a property joins: the less or the greater of two numbers, the interval that spans two,
 /// the union or the intersection of two sets.
-#[derive(Clone, Copy, Debug, Default, PartialEq, Eq)]
+#[derive(Clone, Copy, Debug, PartialEq, Eq)]
 pub enum Kind {
-    #[default]
     Min,
     Max,
     Interval,
     SomeBits,
     AllBits,
+}
+
+/// What a list of kinds holds where none was written yet.
+impl Default for Kind {
+    fn default() -> Kind
+        ensures { result ≡ Kind.Min }
+    {
+        Kind::Min
+    }
 }
 
 impl Kind {

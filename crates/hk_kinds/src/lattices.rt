@@ -1,3 +1,4 @@
+//! Lattices: values that have joins.
 ghost use Rattle.std.specs.Prelude.{◌≡◌, Bool};
 ghost use Rattle.hk_kinds.specs.Lattices.{IsLattice};
 

@@ -1,3 +1,4 @@
+//! The lattices of numbers and of intervals.
 ghost use Rattle.std.specs.Prelude.{◌&&◌, int_le, FitsSigned};
 ghost use Rattle.std.specs.Int.{int_min, int_max, w64};
 ghost use Rattle.hk_kinds.specs.NumberLattices.{min_numbers, max_numbers, spans};

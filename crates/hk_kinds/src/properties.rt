@@ -1,3 +1,4 @@
+//! The properties of a state: their join and covering, by kind.
 ghost use Rattle.std.specs.Prelude.{◌≡◌, pos};
 ghost use Rattle.hk_kinds.specs.Joins.{property_join};
 ghost use Rattle.hk_kinds.specs.Covers.{property_covers};

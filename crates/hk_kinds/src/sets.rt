@@ -1,3 +1,4 @@
+//! The lattices of sets.
 ghost use Rattle.std.specs.Prelude.{◌==◌, bit_and, bit_or};
 ghost use Rattle.hk_kinds.specs.Sets.{IsSet};
 ghost use Rattle.hk_kinds.specs.SetLattices.{some_sets, all_sets};

@@ -1,3 +1,4 @@
+//! The shapes of states.
 ghost use Rattle.std.specs.Prelude.{◌≡◌, [], ◌∷◌, ◌++◌, IfOk, OnOk, OnErr};
 
 use crate::kinds::Kind;

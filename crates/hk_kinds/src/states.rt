@@ -1,3 +1,4 @@
+//! States: lists of properties, which join and cover property by property.
 ghost use Rattle.std.specs.Prelude.{◌≡◌, ◌<◌, ◌↔◌, [], ◌∷◌, ◌++◌, length, slice_set, IsTrue, IfOk, OnOk, OnErr};
 ghost use Rattle.hk_kinds.specs.Covers.{StateCovers, state_covers};
 ghost use Rattle.hk_kinds.specs.Joins.{state_join};
@@ -155,6 +156,12 @@ mod tests {
         Ok(shape)
     }
 
+    /// The top state of the kinds, by a copy of their shape and a copy of the state.
+    fn top_of(alloc: Global, kinds: &[Kind]) -> Result<State, AllocError> {
+        let shape = shape_of(alloc, kinds)?;
+        State::top(alloc, &shape.copy()?)?.copy()
+    }
+
     #[test]
     fn tops_of_kinds(rt: HostRuntime) -> Result<(), Fail> {
         let kinds = [
@@ -164,16 +171,25 @@ mod tests {
             Kind::SomeBits,
             Kind::AllBits,
         ];
-        let shape = shape_of(rt.alloc(), &kinds)?;
-        let top = State::top(rt.alloc(), &shape.copy()?)?.copy()?;
-        let expected = [
+        let tops = [
             Prop::Num(-1_000_000_000_000),
             Prop::Num(1_000_000_000_000),
             Prop::Pair(-1_000_000_000_000, 1_000_000_000_000),
             Prop::Bits(0xffff_ffff_ffff_ffff_ffff_ffff_ffff_ffff),
             Prop::Bits(0),
         ];
-        assert_eq!(rt; top.as_slice(), expected.as_slice());
+        let rows = [
+            ([].as_slice(), [].as_slice()),
+            (kinds.as_slice(), tops.as_slice()),
+            (
+                [Kind::AllBits; 256].as_slice(),
+                [Prop::Bits(0); 256].as_slice(),
+            ),
+        ];
+        for (kinds, expected) in rows {
+            let top = top_of(rt.alloc(), kinds)?;
+            assert_eq!(rt; top.as_slice(), expected);
+        }
         Ok(())
     }
 }

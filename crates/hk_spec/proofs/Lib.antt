@@ -3,3 +3,4 @@ pub mod PartLaws
 pub mod RunLaws
 pub mod StepLaws
 pub mod ValueLaws
+pub mod WithoutBest

@@ -4,9 +4,10 @@ use Rattle.std.proofs.lemmas.Grind.{common_steps}
 use Rattle.std.proofs.lemmas.List.{length-append}
 use Rattle.hk_kinds.specs.Shapes.{HasShape}
 use Rattle.hk_kinds.specs.declared.properties.Prop.{Prop}
-use Rattle.hk_spec.specs.Runs.{exact_up, exact_ups, AcceptsFrom, one_more}
+use Rattle.hk_spec.specs.Runs.{exact_up, AcceptsFrom, one_more}
 use Rattle.hk_spec.specs.Specifications.{BoundSpecification, IsBound, up_shape}
 use Rattle.hk_spec.specs.Steps.{down_step, test_passes}
+use Rattle.hk_spec.specs.inside.UpStates.{exact_ups}
 use Rattle.hk_spec.proofs.StepLaws.{up_step_has_shape}
 
 -- what is left from a place on begins with the value there

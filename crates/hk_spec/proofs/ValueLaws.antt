@@ -7,7 +7,8 @@ use Rattle.std.proofs.lemmas.Nat.{ones_le_self}
 use Rattle.std.proofs.Math.Nat.{pow-suc}
 use Rattle.std.proofs.Math.Pow.{pow-lt}
 use Rattle.std.specs.Int.Count.{ones_step}
-use Rattle.hk_kinds.proofs.PropertyLaws.{min_within, max_within, to_le}
+use Rattle.std.specs.Int.{int_max, int_min}
+use Rattle.hk_kinds.proofs.PropertyLaws.{to_le}
 use Rattle.hk_kinds.specs.Limits.{IsWithinLimit}
 use Rattle.hk_kinds.specs.NumberLattices.{first_true, second_true}
 use Rattle.hk_kinds.specs.Sets.{IsSet}
@@ -103,8 +104,8 @@ module _ {scope : Scope} {at : Setting} (known : IsSettingOf scope at) where
   num_layer tree keeps (NumExpr-F.High side place) fits = high_within (side_of known side) place
   num_layer tree keeps (NumExpr-F.Card set) fits = small_within (count_ones (set_value at set)) (card_small (set_value at set) (set_value_within set fits))
   num_layer tree keeps (NumExpr-F.Add a b) fits = clamped_within (num_value at (tree a) +ℤ num_value at (tree b))
-  num_layer tree keeps (NumExpr-F.Least a b) fits = min_within _ _ (keeps a (first_true _ _ fits)) (keeps b (second_true _ _ fits))
-  num_layer tree keeps (NumExpr-F.Most a b) fits = max_within _ _ (keeps a (first_true _ _ fits)) (keeps b (second_true _ _ fits))
+  num_layer tree keeps (NumExpr-F.Least a b) fits = clamped_within (int_min (num_value at (tree a)) (num_value at (tree b)))
+  num_layer tree keeps (NumExpr-F.Most a b) fits = clamped_within (int_max (num_value at (tree a)) (num_value at (tree b)))
   num_layer tree keeps (NumExpr-F.Minus a b) fits = clamped_within (num_value at (tree a) -ℤ num_value at (tree b))
   num_layer tree keeps (NumExpr-F.Negative a) fits = clamped_within (neg_ℤ (num_value at (tree a)))
   num_layer tree keeps (NumExpr-F.Times a b) fits = clamped_within (num_value at (tree a) *ℤ num_value at (tree b))

@@ -1,3 +1,4 @@
+-- The arguments that a specification takes.
 use Rattle.std.specs.Prelude.{◌≡◌, ℕ, ℤ, pos, negsuc, ◌≤ℤ◌, List, [], ◌∷◌, length, All}
 use Rattle.hk_kinds.specs.Limits.{IsWithinLimit}
 use Rattle.hk_kinds.specs.Sets.{IsSet}

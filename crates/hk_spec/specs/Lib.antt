@@ -6,3 +6,4 @@ pub mod Settings
 pub mod Specifications
 pub mod Steps
 pub mod Values
+pub mod inside

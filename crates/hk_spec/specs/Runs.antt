@@ -1,3 +1,4 @@
+-- The exact run over a list of values, and which lists it accepts.
 use Rattle.std.specs.Prelude.{ℕ, ℤ, ◌+◌, List, [], ◌∷◌, IsTrue}
 use Rattle.hk_kinds.specs.declared.properties.Prop.{Prop}
 use Rattle.hk_spec.specs.Specifications.{BoundSpecification, initial_values}
@@ -7,11 +8,6 @@ use Rattle.hk_spec.specs.Steps.{down_step, up_step, test_passes}
 abbrev pub exact_up : BoundSpecification → ℕ → List ℕ → List Prop
 exact_up b position [] = initial_values b.spec.up
 exact_up b position (value ∷ values) = up_step b position value (exact_up b (position + 1) values)
-
--- the up states after each of the values from a position on
-abbrev pub exact_ups : BoundSpecification → ℕ → List ℕ → List (List Prop)
-exact_ups b position [] = []
-exact_ups b position (value ∷ values) = exact_up b (position + 1) values ∷ exact_ups b (position + 1) values
 
 -- from a position and the exact down state before it on, the test holds at each position of the down state before
 -- it, the value, and the up state after it

@@ -1,5 +1,6 @@
+-- What an expression may name, how deep it may be, and when it is a good one.
 use Rattle.std.specs.Prelude.{ℕ, ℤ, Bool, true, false, ◌&&◌, ◌+◌, max, ◌^◌, neg_ℤ, int_le, nat_le, nat_lt, Option, Some, List, slice_get}
-use Rattle.hk_kinds.specs.declared.limits.TheConstants.{LIM}
+use Rattle.hk_base.specs.Limits.{number_limit}
 use Rattle.hk_kinds.specs.declared.kinds.Kind.{Kind}
 use Rattle.hk_kinds.specs.declared.kinds.Kind.TheVariants.{Min, Max, Interval, SomeBits, AllBits}
 use Rattle.hk_spec.specs.declared.parts.ParamKind.{ParamKind}
@@ -60,9 +61,9 @@ abbrev pub is_list_param : Option ParamKind → Bool
 is_list_param (Some kind.List) = true
 is_list_param _ = false
 
--- the test whether a number lies in -LIM..LIM
+-- the test whether a number lies from -1,000,000,000,000 to 1,000,000,000,000
 abbrev pub is_within_limit : ℤ → Bool
-is_within_limit n = int_le (neg_ℤ LIM) n && int_le n LIM
+is_within_limit n = int_le (neg_ℤ number_limit) n && int_le n number_limit
 
 -- whether a set expression names what is there, each of the kind that its place asks, and its literals have no
 -- values but 0 to 127

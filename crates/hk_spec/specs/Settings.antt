@@ -1,3 +1,4 @@
+-- What an expression is computed of.
 use Rattle.std.specs.Prelude.{ℕ, ℤ, pos, Option, Some, List, slice_get, unwrap_or}
 use Rattle.hk_kinds.specs.declared.properties.Prop.{Prop}
 use Rattle.hk_kinds.specs.declared.properties.Prop.TheVariants as property

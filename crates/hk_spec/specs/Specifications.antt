@@ -1,3 +1,4 @@
+-- Specifications and their rules, without and with arguments.
 use Rattle.std.specs.Prelude.{ℕ, Bool, true, false, ◌&&◌, ◌<◌, ◌≤◌, List, [], ◌∷◌, ◌++◌, length, map, IsTrue}
 use Rattle.std.specs.List.{list_all}
 use Rattle.hk_kinds.specs.Shapes.{HasShape}
@@ -89,6 +90,10 @@ pub record IsSpecification (s : Specification) : Type 0 where
   pub good_test : IsTrue (is_good_cond (test_scope s) s.test)
   pub good_down_steps : IsTrue (are_steps (down_scope s) (down_shape s) s.down_step)
   pub good_up_steps : IsTrue (are_steps (up_scope s) (up_shape s) s.up_step)
+
+-- the test is a good one that does not name the bound on the cost; no step may name it
+abbrev pub IsWithoutBest : Specification → Type 0
+IsWithoutBest s = IsTrue (is_good_cond (record (test_scope s) { best = false }) s.test)
 
 -- a specification with arguments, for lists of so many values
 pub record BoundSpecification : Type 0 where

@@ -1,3 +1,4 @@
+-- The steps of states and the test of a position, also within longer states.
 use Rattle.std.specs.Prelude.{ℕ, ℤ, pos, Bool, ◌+◌, List, [], ◌++◌, length, map, take, drop}
 use Rattle.hk_kinds.specs.declared.properties.Prop.{Prop}
 use Rattle.hk_kinds.specs.declared.properties.Prop.TheVariants as property

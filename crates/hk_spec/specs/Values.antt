@@ -1,3 +1,4 @@
+-- The values of expressions and conditions.
 use Rattle.std.specs.Prelude.{ℕ, ℤ, pos, Bool, true, false, ◌&&◌, ◌||◌, not, ◌==◌, ◌^◌, ◌+ℤ◌, ◌-ℤ◌, ◌*ℤ◌, neg_ℤ, int_le, int_lt, bit_and, bit_or, bit_xor, count_ones, slice_get}
 use Rattle.std.specs.Int.{bit_at, int_max, int_min}
 use Rattle.std.specs.Ordering.{int_eq}
@@ -45,8 +46,8 @@ num_step at (NumExpr-F.Low side place) = low_of_property (slice_get (state_of at
 num_step at (NumExpr-F.High side place) = high_of_property (slice_get (state_of at side) place)
 num_step at (NumExpr-F.Card set) = pos (count_ones (set_value at set))
 num_step at (NumExpr-F.Add a b) = clamped (a +ℤ b)
-num_step at (NumExpr-F.Least a b) = int_min a b
-num_step at (NumExpr-F.Most a b) = int_max a b
+num_step at (NumExpr-F.Least a b) = clamped (int_min a b)
+num_step at (NumExpr-F.Most a b) = clamped (int_max a b)
 num_step at (NumExpr-F.Minus a b) = clamped (a -ℤ b)
 num_step at (NumExpr-F.Negative a) = clamped (neg_ℤ a)
 num_step at (NumExpr-F.Times a b) = clamped (a *ℤ b)

@@ -1,3 +1,4 @@
+//! The arguments of a specification.
 use hk_base::List;
 
 /// An argument of a specification: a number, a set of values, or one number a position.

@@ -1,3 +1,4 @@
+//! Specifications with arguments: their steps, their test and their exact run.
 ghost use Rattle.std.specs.Prelude.{◌≡◌, ℕ, ◌<◌, ◌↔◌, length, IsTrue, IfOk, All};
 ghost use Rattle.hk_kinds.specs.Shapes.{HasShape};
 ghost use Rattle.hk_spec.specs.Runs.{Accepts};

@@ -1,3 +1,4 @@
+//! The trees of expressions and conditions.
 use sqlite_items::Boxed;
 
 /// In which of a specification's two lists a property stands.

@@ -21,6 +21,9 @@ mod values;
 pub use arguments::Arg;
 pub use bindings::{Bound, Bounds};
 pub use expressions::{Cond, NumExpr, SetExpr, Side};
-pub use laws::{down_steps_keep_the_shape, up_steps_keep_the_shape};
+pub use laws::{
+    acceptance_without_best, condition_without_best, down_steps_keep_the_shape,
+    up_steps_keep_the_shape,
+};
 pub use parts::{Param, ParamKind, PropDecl, StepExpr};
 pub use specification::Spec;

@@ -1,3 +1,4 @@
+//! The parts of a specification: parameters, properties and their steps.
 use crate::expressions::{NumExpr, SetExpr};
 use hk_base::Bytes;
 use hk_kinds::{Kind, Prop};

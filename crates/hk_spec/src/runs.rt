@@ -1,7 +1,7 @@
 //! The states of an exact run over a list of values.
 ghost use Rattle.std.specs.Prelude.{◌≡◌, ℕ, ◌<◌, length, reverse, IfOk, All};
 ghost use Rattle.hk_kinds.specs.Shapes.{HasShape};
-ghost use Rattle.hk_spec.specs.Runs.{exact_ups};
+ghost use Rattle.hk_spec.specs.inside.UpStates.{exact_ups};
 ghost use Rattle.hk_spec.specs.Specifications.{initial_values, down_shape, up_shape};
 ghost use Rattle.hk_spec.specs.Steps.{down_step, up_step, test_passes};
 

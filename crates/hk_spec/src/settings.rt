@@ -1,3 +1,4 @@
+//! What an expression is computed of.
 ghost use Rattle.std.specs.Prelude.{◌≡◌, ℕ, ◌<◌, ◌^◌};
 ghost use Rattle.hk_spec.specs.Settings.{state_of};
 

@@ -1,3 +1,4 @@
+//! Specifications, which keep their rules.
 ghost use Rattle.std.specs.Prelude.{◌≡◌, IfOk};
 
 use crate::copies::{copy_cond, copy_list, copy_plain};

@@ -1,6 +1,6 @@
 //! The specification `rise`, whose property `m` is the value before, and whose test asks that each
 //! value is greater than the one before it.
-ghost use Rattle.std.specs.Prelude.{◌≡◌, ◌<◌, [], ◌∷◌, pos, true, IfOk, IsTrue};
+ghost use Rattle.std.specs.Prelude.{◌≡◌, ◌<◌, ◌≤◌, [], ◌∷◌, pos, true, IfOk, IsTrue};
 ghost use Rattle.hk_spec.specs.declared.expressions.Cond.TheVariants.{Below, Either};
 ghost use Rattle.hk_spec.specs.Scopes.{is_good_cond};
 ghost use Rattle.hk_spec.specs.Specifications.{IsSpecification, down_shape};
@@ -79,22 +79,36 @@ fn rise(alloc: Global) -> Result<Spec, AllocError>
     })
 }
 
-fn rising_pairs(alloc: Global) -> Result<Bound, AllocError>
-    ensures len { IfOk result (λ bound. bound.len ≡ 2) }
+/// It for lists of so many values.
+fn rising(alloc: Global, len: u16) -> Result<Bound, AllocError>
+    requires { len ≤ 2 }
+    ensures len { IfOk result (λ bound. bound.len ≡ len) }
     ensures down { IfOk result (λ bound. down_shape bound.spec ≡ Kind.Min ∷ []) }
 {
     Ok(Bound {
         spec: rise(alloc)?,
         args: List::new(alloc),
-        len: 2,
+        len,
     })
 }
 
 fn copied_pairs(alloc: Global) -> Result<Bound, AllocError>
     ensures { IfOk result (λ bound. bound.len ≡ 2) }
 {
-    let bound = rising_pairs(alloc)?;
+    let bound = rising(alloc, 2)?;
     bound.copy(alloc)
+}
+
+fn accepts_none(alloc: Global) -> Result<bool, AllocError> {
+    let bound = rising(alloc, 0)?;
+    bound.accepts(alloc, &[], 0)
+}
+
+fn accepts_one(alloc: Global, value: u8) -> Result<bool, AllocError>
+    requires { value < 128 }
+{
+    let bound = rising(alloc, 1)?;
+    bound.accepts(alloc, &[value], 0)
 }
 
 fn accepts_pair(bound: &Bound, alloc: Global, first: u8, second: u8) -> Result<bool, AllocError>
@@ -119,8 +133,16 @@ fn five_answers(bound: &Bound, alloc: Global) -> Result<[bool; 5], AllocError>
 }
 
 #[test]
+fn accepts_no_value_and_one(rt: HostRuntime) -> Result<(), Fail> {
+    let none = accepts_none(rt.alloc())?;
+    let one = accepts_one(rt.alloc(), 127)?;
+    assert_eq!(rt; [none, one], [true, true]);
+    Ok(())
+}
+
+#[test]
 fn accepts_pairs_that_rise(rt: HostRuntime) -> Result<(), Fail> {
-    let bound = rising_pairs(rt.alloc())?;
+    let bound = rising(rt.alloc(), 2)?;
     let answers = five_answers(&bound, rt.alloc())?;
     assert_eq!(rt; answers, [true, false, false, false, true]);
     Ok(())
@@ -146,7 +168,7 @@ fn state(alloc: Global, first: Prop, second: Prop, third: Prop) -> Result<State,
 
 #[test]
 fn a_step_writes_its_part_alone(rt: HostRuntime) -> Result<(), Fail> {
-    let bound = rising_pairs(rt.alloc())?;
+    let bound = rising(rt.alloc(), 2)?;
     let from = state(rt.alloc(), Prop::Bits(6), Prop::Num(4), Prop::Num(8))?;
     let mut to = state(rt.alloc(), Prop::Bits(5), Prop::Num(9), Prop::Pair(1, 2))?;
     bound.step_down(1, 7, &from, &mut to, 1);

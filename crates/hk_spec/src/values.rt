@@ -1,6 +1,6 @@
 //! The values of expressions.
 ghost use Rattle.std.specs.Prelude.{◌≡◌, ◌+ℤ◌, ◌-ℤ◌, ◌*ℤ◌, ◌==◌, ◌^◌, ◌<◌, bit_and};
-ghost use Rattle.std.specs.Int.{bit_at};
+ghost use Rattle.std.specs.Int.{bit_at, int_max, int_min};
 ghost use Rattle.hk_kinds.specs.Limits.{clamped};
 ghost use Rattle.hk_spec.specs.Values.{num_value, set_value, cond_holds, set_without};
 
@@ -43,8 +43,8 @@ pub fn num_value(e: &NumExpr, at: &Setting<'_>) -> i64
         NumExpr::High(side, place) => high_at(at.state(*side), *place),
         NumExpr::Card(set) => i64::from(set_value(set.get(), at).count_ones()),
         NumExpr::Add(a, b) => sum(num_value(a.get(), at), num_value(b.get(), at)),
-        NumExpr::Least(a, b) => num_value(a.get(), at).min(num_value(b.get(), at)),
-        NumExpr::Most(a, b) => num_value(a.get(), at).max(num_value(b.get(), at)),
+        NumExpr::Least(a, b) => less(num_value(a.get(), at), num_value(b.get(), at)),
+        NumExpr::Most(a, b) => greater(num_value(a.get(), at), num_value(b.get(), at)),
         NumExpr::Minus(a, b) => difference(num_value(a.get(), at), num_value(b.get(), at)),
         NumExpr::Negative(a) => difference(0, num_value(a.get(), at)),
         NumExpr::Times(a, b) => product(num_value(a.get(), at), num_value(b.get(), at)),
@@ -76,6 +76,18 @@ fn sum(a: i64, b: i64) -> i64
     ensures { result ≡ clamped (a +ℤ b) }
 {
     clamp(i128::from(a) + i128::from(b))
+}
+
+fn less(a: i64, b: i64) -> i64
+    ensures { result ≡ clamped (int_min a b) }
+{
+    clamp(i128::from(a.min(b)))
+}
+
+fn greater(a: i64, b: i64) -> i64
+    ensures { result ≡ clamped (int_max a b) }
+{
+    clamp(i128::from(a.max(b)))
 }
 
 fn difference(a: i64, b: i64) -> i64

@@ -1,7 +1,8 @@
 use Rattle.std.proofs.Common.{◌≡◌, ◌≤◌, length, reverse, drop}
 use Rattle.hk_kinds.specs.Shapes.{HasShape}
-use Rattle.hk_spec.specs.Runs.{exact_up, exact_ups}
+use Rattle.hk_spec.specs.Runs.{exact_up}
 use Rattle.hk_spec.specs.Specifications.{up_shape}
+use Rattle.hk_spec.specs.inside.UpStates.{exact_ups}
 use Rattle.hk_spec.proofs.runs.up_states.Given as goal
 
 -- the up states from the position on are kept, and the one before it is at hand

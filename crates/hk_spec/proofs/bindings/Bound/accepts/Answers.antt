@@ -5,8 +5,9 @@ use Rattle.std.specs.Int.{w64}
 use Rattle.std.proofs.lemmas.Int.{to_z-of_z}
 use Rattle.std.proofs.Common.{to_z, of_z}
 use Rattle.hk_kinds.specs.Shapes.{HasShape}
-use Rattle.hk_spec.specs.Runs.{Accepts, AcceptsFrom, at_end, exact_ups}
+use Rattle.hk_spec.specs.Runs.{Accepts, AcceptsFrom, at_end}
 use Rattle.hk_spec.specs.Specifications.{IsBound, up_shape}
+use Rattle.hk_spec.specs.inside.UpStates.{exact_ups}
 use Rattle.hk_spec.proofs.RunLaws.{left_is, all_left, exact_up_has_shape, taken, goes_on, refused, length-exact_ups}
 use Rattle.hk_spec.proofs.bindings.Bound.accepts.Goals as goal
 

@@ -1,7 +1,8 @@
 use Rattle.std.proofs.Common.{◌≡◌, ◌↔◌, reverse, drop}
 use Rattle.hk_kinds.specs.Shapes.{HasShape}
-use Rattle.hk_spec.specs.Runs.{exact_ups, Accepts, AcceptsFrom}
+use Rattle.hk_spec.specs.Runs.{Accepts, AcceptsFrom}
 use Rattle.hk_spec.specs.Specifications.{down_shape}
+use Rattle.hk_spec.specs.inside.UpStates.{exact_ups}
 use Rattle.hk_spec.proofs.bindings.Bound.accepts.Given as goal
 
 -- the run accepts all values exactly where it accepts those that are left, from the down state at hand
