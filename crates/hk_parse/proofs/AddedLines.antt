@@ -10,12 +10,14 @@ use Rattle.hk_spec.specs.declared.expressions.Cond.{Cond}
 use Rattle.hk_spec.specs.declared.expressions.Side.TheVariants.{Down, Up}
 use Rattle.hk_spec.specs.declared.parts.PropDecl.{PropDecl}
 use Rattle.hk_spec.specs.declared.parts.StepExpr.{StepExpr}
-use Rattle.hk_parse.specs.BlockLines.{Part, due, test_names, step_names, scope_of, MayStand, with_property, with_step, Adds, adds_property, adds_test, adds_step}
-use Rattle.hk_parse.specs.Expressions.{Naming, cond_pieces}
+use Rattle.hk_parse.specs.BlockLines.{Part, due, test_names, step_names, MayStand, with_property, with_step, Adds, adds_property, adds_test, adds_step}
+use Rattle.hk_terms.specs.Names.{scope_of}
+use Rattle.hk_print.specs.Expressions.{Naming, cond_pieces}
 use Rattle.hk_parse.specs.LineTexts.{LineText, Property, Test, Step, line_texts}
-use Rattle.hk_parse.specs.Pieces.{piece, tokens_of}
-use Rattle.hk_parse.specs.Printed.{property_line, step_line}
-use Rattle.hk_parse.specs.Trees.{init_text, step_text, cond_text}
+use Rattle.hk_print.specs.Pieces.{piece, tokens_of}
+use Rattle.hk_print.specs.Printed.{property_line, step_line}
+use Rattle.hk_parse.specs.LineTrees.{init_text, step_text}
+use Rattle.hk_terms.specs.Trees.{cond_text}
 use Rattle.hk_parse.proofs.LineTokens.{property_tokens, test_tokens, step_tokens}
 use Rattle.hk_parse.proofs.NamesOfSpecs.{naming_for, all_covered, down_covered, up_covered}
 use Rattle.hk_parse.proofs.PartsPrinted.{test_lines, declared_lines, declared_down, declared_up, part_lines, no_steps, untested_lines, down_step_lines, up_step_lines, AreInOrder, got_first, got_second}

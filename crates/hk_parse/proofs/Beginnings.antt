@@ -10,14 +10,15 @@ use Rattle.hk_spec.specs.declared.parts.Param.{Param}
 use Rattle.hk_spec.specs.declared.parts.PropDecl.{PropDecl}
 use Rattle.hk_spec.specs.declared.parts.StepExpr.{StepExpr}
 use Rattle.hk_text.specs.Lexemes.{IsWord}
-use Rattle.hk_parse.specs.BlockFaults.{IsBeginFault, IsHeaderFault}
+use Rattle.hk_parse.specs.BlockFaults.{IsBeginFault}
+use Rattle.hk_parse.specs.inside.LineParts.{IsHeaderFault}
 use Rattle.hk_parse.specs.BlockLines.{Part, Begins, param_names, part_names}
 use Rattle.hk_parse.specs.Blocks.{IsPart}
-use Rattle.hk_parse.specs.Headers.{IsHeader, param_text}
+use Rattle.hk_parse.specs.inside.Headers.{IsHeader, param_text}
 use Rattle.hk_parse.specs.LineTexts.{ParamText, Begin, SaysLine}
 use Rattle.hk_parse.specs.declared.faults.BlockFault.{BlockFault}
 use Rattle.hk_parse.specs.declared.faults.BlockFault.TheVariants.{Syntax, Name, Limit, Memory}
-use Rattle.hk_parse.proofs.FreeNames.{word_is_name, words_are_free, any_from_map}
+use Rattle.hk_terms.proofs.FreeNames.{word_is_name, words_are_free, any_from_map}
 
 -- the names of parameters are those of their texts
 declared_names : (declared : List Param) → map (λ (p : Param). p.name) declared ≡ param_names (map param_text declared)

@@ -6,16 +6,18 @@ use Rattle.hk_kinds.specs.declared.kinds.Kind.{Kind}
 use Rattle.hk_spec.specs.Scopes.{is_number_kind, is_interval_kind, is_set_kind}
 use Rattle.hk_spec.specs.declared.parts.ParamKind.{ParamKind}
 use Rattle.hk_spec.specs.declared.parts.ParamKind.TheVariants as param
-use Rattle.hk_parse.specs.SetTexts as sets
-use Rattle.hk_parse.specs.SetTexts.{SetText}
-use Rattle.hk_parse.specs.NumTexts as nums
-use Rattle.hk_parse.specs.NumTexts.{NumText}
-use Rattle.hk_parse.specs.CondTexts as conds
-use Rattle.hk_parse.specs.CondTexts.{CondText}
-use Rattle.hk_parse.specs.LineTexts.{InitText, Single, Pair, Values, StepText, ToNumber, ToPair, ToSet, param_word}
-use Rattle.hk_parse.specs.Names.{Names, HasParam, HasProperty, plain_words, IsNumName, IsSetName, NamesSet, NamesNum, NamesCond, SmallSet, SmallNum, SmallCond, set_depth, num_depth, cond_depth}
+use Rattle.hk_terms.specs.SetTexts as sets
+use Rattle.hk_terms.specs.SetTexts.{SetText}
+use Rattle.hk_terms.specs.NumTexts as nums
+use Rattle.hk_terms.specs.NumTexts.{NumText}
+use Rattle.hk_terms.specs.CondTexts as conds
+use Rattle.hk_terms.specs.CondTexts.{CondText}
+use Rattle.hk_parse.specs.LineTexts.{InitText, Single, Pair, Values, StepText, ToNumber, ToPair, ToSet}
+use Rattle.hk_print.specs.Printed.{param_word}
+use Rattle.hk_terms.specs.Names.{Names, HasParam, HasProperty, plain_words, IsNumName, IsSetName, NamesSet, NamesNum, NamesCond, SmallSet, SmallNum, SmallCond, set_depth, num_depth, cond_depth}
 use Rattle.hk_parse.specs.BlockLines.{NamesStep, SmallStep, SmallInit}
-use Rattle.hk_parse.proofs.DecidingFacts.{dec_true, dec_both, dec_either, dec_all, dec_any, dec_text, dec_listed, dec_up_to}
+use Rattle.hk_text.proofs.Deciding.{dec_true, dec_both, dec_either, dec_all, dec_any, dec_text}
+use Rattle.hk_terms.proofs.DecidingFacts.{dec_listed, dec_up_to}
 use Rattle.hk_parse.proofs.LineReadings.{param_kind_one}
 
 -- that two kinds of parameters are one

@@ -9,17 +9,18 @@ use Rattle.hk_spec.specs.declared.parts.ParamKind.TheVariants as param
 use Rattle.hk_text.specs.Lexemes.{IsWord}
 use Rattle.hk_text.specs.Numbers.{IsNumber}
 use Rattle.hk_text.proofs.Digits.{IsNumber-one}
-use Rattle.hk_parse.specs.SetTexts.{SetText, set_texts, listed, AreRisingNumbers, IsSetText}
-use Rattle.hk_parse.specs.NumTexts.{NumText, num_texts, number_texts, IsSigned, IsNumText}
-use Rattle.hk_parse.specs.Headers.{AreParams}
-use Rattle.hk_parse.specs.LineTexts.{ParamText, param_word, InitText, Single, Pair, Values, StepText, ToNumber, ToPair, ToSet, init_texts, step_texts}
-use Rattle.hk_parse.proofs.TokenTexts.{same_first, same_rest}
-use Rattle.hk_parse.proofs.MachineAtoms.{listed_one}
+use Rattle.hk_terms.specs.SetTexts.{SetText, set_texts, listed, AreRisingNumbers, IsSetText}
+use Rattle.hk_terms.specs.NumTexts.{NumText, num_texts, number_texts, IsSigned, IsNumText}
+use Rattle.hk_parse.specs.inside.Headers.{AreParams}
+use Rattle.hk_parse.specs.LineTexts.{ParamText, InitText, Single, Pair, Values, StepText, ToNumber, ToPair, ToSet, init_texts, step_texts}
+use Rattle.hk_print.specs.Printed.{param_word}
+use Rattle.hk_text.proofs.TokenTexts.{same_first, same_rest}
+use Rattle.hk_terms.proofs.MachineAtoms.{listed_one}
 use Rattle.hk_parse.proofs.Parameters.{HasWord}
 use Rattle.hk_parse.proofs.LineReadings.{signed_one, InitForm, min_number, max_number, two_numbers, some_numbers, all_numbers, StepForm, min_step, max_step, two_steps, some_step, all_step}
-use Rattle.hk_parse.proofs.DecidingFacts.{dec_both, dec_either, dec_empty, dec_text, dec_word, dec_number, Begins, dec_begins, After, dec_after}
-use Rattle.hk_parse.proofs.DecidingAtoms.{Rising, dec_rising_numbers}
-use Rattle.hk_parse.proofs.DecidingTexts.{dec_num, dec_set, dec_pair}
+use Rattle.hk_text.proofs.Deciding.{dec_both, dec_either, dec_empty, dec_text, dec_word, dec_number, Begins, dec_begins, After, dec_after}
+use Rattle.hk_exprs.proofs.DecidingAtoms.{Rising, dec_rising_numbers}
+use Rattle.hk_exprs.proofs.DecidingTexts.{dec_num, dec_set, dec_pair}
 
 -- whether texts are one text alone
 pub dec_alone : (mark : List ℕ) (texts : List (List ℕ)) → Dec (texts ≡ mark ∷ [])

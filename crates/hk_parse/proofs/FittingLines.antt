@@ -16,14 +16,16 @@ use Rattle.hk_spec.specs.declared.expressions.SetExpr.{SetExpr}
 use Rattle.hk_spec.specs.declared.parts.StepExpr.{StepExpr}
 use Rattle.hk_spec.specs.declared.parts.StepExpr.TheVariants as step
 use Rattle.hk_spec.specs.Scopes as scopes
-use Rattle.hk_parse.specs.BlockLines.{NamesStep, SmallStep, SmallInit, scope_of}
-use Rattle.hk_parse.specs.CondTexts.{IsCondText}
+use Rattle.hk_parse.specs.BlockLines.{NamesStep, SmallStep, SmallInit}
+use Rattle.hk_terms.specs.Names.{scope_of}
+use Rattle.hk_terms.specs.CondTexts.{IsCondText}
 use Rattle.hk_parse.specs.LineTexts.{HasForm, IsInitText, IsStepText}
-use Rattle.hk_parse.specs.Names.{Names, NamesNum, NamesSet, NamesCond, SmallNum, SmallSet, SmallCond, num_depth, set_depth, cond_depth}
-use Rattle.hk_parse.specs.NumTexts.{IsNumText}
-use Rattle.hk_parse.specs.SetTexts.{IsSetText}
-use Rattle.hk_parse.specs.Trees.{init_text, step_text, num_text, set_text, cond_text}
-use Rattle.hk_parse.proofs.Depths.{cond_deep}
+use Rattle.hk_terms.specs.Names.{Names, NamesNum, NamesSet, NamesCond, SmallNum, SmallSet, SmallCond, num_depth, set_depth, cond_depth}
+use Rattle.hk_terms.specs.NumTexts.{IsNumText}
+use Rattle.hk_terms.specs.SetTexts.{IsSetText}
+use Rattle.hk_parse.specs.LineTrees.{init_text, step_text}
+use Rattle.hk_terms.specs.Trees.{num_text, set_text, cond_text}
+use Rattle.hk_terms.proofs.Depths.{cond_deep}
 use Rattle.hk_parse.proofs.StepTexts.{num_shallow, set_shallow}
 use Rattle.hk_parse.proofs.FittingTexts.{AreWords, signed_written, signed_small, members_written, members_small}
 use Rattle.hk_parse.proofs.FittingTrees.{num_good, set_good, cond_good}

@@ -22,12 +22,12 @@ use Rattle.hk_spec.specs.declared.parts.ParamKind.TheVariants as param
 use Rattle.hk_spec.specs.declared.parts.PropDecl.{PropDecl}
 use Rattle.hk_text.specs.Lexemes.{IsWord}
 use Rattle.hk_text.specs.Numbers.{IsNumber, IsPlain}
-use Rattle.hk_parse.specs.BlockLines.{scope_of}
-use Rattle.hk_parse.specs.Names.{Names, HasParam, HasProperty, WritesUpTo}
-use Rattle.hk_parse.specs.NumTexts.{IsSigned}
-use Rattle.hk_parse.specs.SetTexts.{AreNumbers, no_number, then_number, AreRisingNumbers}
-use Rattle.hk_parse.specs.Trees.{members, member_texts, is_negative, digits_of, param_name, property_name, properties_of}
-use Rattle.hk_parse.proofs.LiteralTexts.{writes_up_to}
+use Rattle.hk_terms.specs.Names.{scope_of}
+use Rattle.hk_terms.specs.Names.{Names, HasParam, HasProperty, WritesUpTo}
+use Rattle.hk_terms.specs.NumTexts.{IsSigned}
+use Rattle.hk_terms.specs.SetTexts.{AreNumbers, no_number, then_number, AreRisingNumbers}
+use Rattle.hk_terms.specs.Trees.{members, member_texts, is_negative, digits_of, param_name, property_name, properties_of}
+use Rattle.hk_terms.proofs.LiteralTexts.{writes_up_to}
 use Rattle.hk_parse.proofs.PrintedTexts.{there_by_kind, property_there}
 
 -- the digits of a number write it

@@ -14,12 +14,12 @@ use Rattle.hk_spec.specs.declared.expressions.Cond.{Cond}
 use Rattle.hk_spec.specs.declared.expressions.Cond.TheOpen.{Cond-F}
 use Rattle.hk_spec.specs.declared.expressions.Cond.TheViews.{roll-Cond}
 use Rattle.hk_spec.specs.declared.expressions.Cond.TheFolds.{ind-Cond, fold-roll-Cond, map-Cond}
-use Rattle.hk_parse.specs.BlockLines.{scope_of}
-use Rattle.hk_parse.specs.CondTexts.{CondText, IsCondText}
-use Rattle.hk_parse.specs.Names.{Names, NamesSet, NamesNum, NamesCond, SmallSet, SmallNum, SmallCond}
-use Rattle.hk_parse.specs.NumTexts.{NumText, IsNumText}
-use Rattle.hk_parse.specs.SetTexts.{SetText, IsSetText}
-use Rattle.hk_parse.specs.Trees.{set_text, set_text_step, num_text, num_text_step, cond_text, cond_text_step}
+use Rattle.hk_terms.specs.Names.{scope_of}
+use Rattle.hk_terms.specs.CondTexts.{CondText, IsCondText}
+use Rattle.hk_terms.specs.Names.{Names, NamesSet, NamesNum, NamesCond, SmallSet, SmallNum, SmallCond}
+use Rattle.hk_terms.specs.NumTexts.{NumText, IsNumText}
+use Rattle.hk_terms.specs.SetTexts.{SetText, IsSetText}
+use Rattle.hk_terms.specs.Trees.{set_text, set_text_step, num_text, num_text_step, cond_text, cond_text_step}
 use Rattle.hk_parse.proofs.FittingTexts.{AreWords, members_written, members_small, signed_written, signed_small, num_param_named, set_param_named, list_param_named, property_named}
 
 module _ {names : Names} (words : AreWords names) where

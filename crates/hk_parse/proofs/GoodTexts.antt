@@ -7,9 +7,9 @@ use Rattle.hk_parse.specs.BlockFaults.{BeginsWith, GoesOn, Ends}
 use Rattle.hk_parse.specs.BlockLines.{Part}
 use Rattle.hk_parse.specs.Blocks.{IsWhole}
 use Rattle.hk_parse.specs.LineTexts.{LineText, Begin, Property, Test, Step, End, line_texts, SaysLine}
-use Rattle.hk_parse.specs.Pieces.{tokens_of}
+use Rattle.hk_print.specs.Pieces.{tokens_of}
 use Rattle.hk_parse.specs.SpecTexts.{Stage, Before, Within, Whole, IsGoodLine, good_empty, good_first, good_later, good_end, AreGoodLines, no_line, then_line, AreTextsOf, no_lines, without_texts, with_texts}
-use Rattle.hk_parse.proofs.PrintedLines.{PrintedAs, printed_none, printed_next}
+use Rattle.hk_print.proofs.PrintedLines.{PrintedAs, printed_none, printed_next}
 
 -- the texts of a good line: the first; one after it; the end
 pub data IsGoodText : Stage → List (List ℕ) → Stage → Type 0 where

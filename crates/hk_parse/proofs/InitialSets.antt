@@ -10,20 +10,21 @@ use Rattle.hk_spec.specs.Scopes.{is_good_set, set_fits, set_fits_step}
 use Rattle.hk_spec.specs.declared.expressions.SetExpr.TheFolds.{fold-roll-SetExpr}
 use Rattle.hk_spec.specs.declared.expressions.SetExpr.TheOpen.{SetExpr-F}
 use Rattle.hk_spec.specs.declared.expressions.SetExpr.TheVariants.{Lit, rolls-Lit}
-use Rattle.hk_parse.specs.Atoms.{IsBitsOf, ReadsValues}
-use Rattle.hk_parse.specs.BlockLines.{scope_of}
-use Rattle.hk_parse.specs.Headers.{ReadsInit}
+use Rattle.hk_terms.specs.Atoms.{IsBitsOf, ReadsValues}
+use Rattle.hk_terms.specs.Names.{scope_of}
+use Rattle.hk_parse.specs.inside.Headers.{ReadsInit}
 use Rattle.hk_parse.specs.LineTexts.{Single, Pair, Values, init_texts}
-use Rattle.hk_parse.specs.Machines.{Operand, Set, AtomThen, atom_word, atom_item, atom_low, atom_high, atom_number, atom_one, atom_values}
-use Rattle.hk_parse.specs.Names.{Names, WritesUpTo}
-use Rattle.hk_parse.specs.SetTexts as sets
-use Rattle.hk_parse.specs.SetTexts.{SetText, AreRisingNumbers, listed}
-use Rattle.hk_parse.specs.Trees.{init_text, set_text, set_text_step}
-use Rattle.hk_parse.specs.declared.flaws.Flaw.{Flaw}
-use Rattle.hk_parse.specs.declared.flaws.Flaw.TheVariants.{Name, Limit}
+use Rattle.hk_terms.specs.Operands.{Operand, Set, AtomThen, atom_word, atom_item, atom_low, atom_high, atom_number, atom_one, atom_values}
+use Rattle.hk_terms.specs.Names.{Names, WritesUpTo}
+use Rattle.hk_terms.specs.SetTexts as sets
+use Rattle.hk_terms.specs.SetTexts.{SetText, AreRisingNumbers, listed}
+use Rattle.hk_parse.specs.LineTrees.{init_text}
+use Rattle.hk_terms.specs.Trees.{set_text, set_text_step}
+use Rattle.hk_terms.specs.declared.flaws.Flaw.{Flaw}
+use Rattle.hk_terms.specs.declared.flaws.Flaw.TheVariants.{Name, Limit}
 use Rattle.hk_parse.proofs.InitialTexts.{AreNoInit}
-use Rattle.hk_parse.proofs.MachineAtoms.{atom_same}
-use Rattle.hk_parse.proofs.TokenTexts.{same_rest}
+use Rattle.hk_terms.proofs.MachineAtoms.{atom_same}
+use Rattle.hk_text.proofs.TokenTexts.{same_rest}
 
 -- texts of numbers in braces begin with them as an operand
 values_begin : {texts numbers : List (List ℕ)} → AreRisingNumbers numbers → texts ≡ init_texts (Values numbers) → AtomThen texts (Set (sets.Values numbers)) []

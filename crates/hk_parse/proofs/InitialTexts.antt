@@ -7,12 +7,12 @@ use Rattle.hk_kinds.specs.declared.kinds.Kind.{Kind}
 use Rattle.hk_kinds.specs.declared.kinds.Kind.TheVariants.{Min, Max, Interval, SomeBits, AllBits}
 use Rattle.hk_kinds.specs.declared.properties.Prop.{Prop}
 use Rattle.hk_kinds.specs.declared.properties.Prop.TheVariants as property
-use Rattle.hk_parse.specs.Headers.{IsSignedOf, SignedThen, IsInitOf, ReadsInit}
+use Rattle.hk_parse.specs.inside.Headers.{IsSignedOf, SignedThen, IsInitOf, ReadsInit}
 use Rattle.hk_parse.specs.LineTexts.{InitText, Single, Pair, Values, init_texts, IsInitText}
-use Rattle.hk_parse.specs.Names.{WritesUpTo}
-use Rattle.hk_parse.specs.NumTexts.{IsSigned, number_texts}
+use Rattle.hk_terms.specs.Names.{WritesUpTo}
+use Rattle.hk_terms.specs.NumTexts.{IsSigned, number_texts}
 use Rattle.hk_parse.proofs.SignedTexts.{signed_end, signed_rest, within_in_word}
-use Rattle.hk_parse.proofs.TokenTexts.{same_rest}
+use Rattle.hk_text.proofs.TokenTexts.{same_rest}
 
 -- the texts begin with no number
 abbrev pub BeginsNoSigned : List (List ℕ) → Type 0

@@ -8,13 +8,15 @@ use Rattle.hk_spec.specs.declared.expressions.Side.{Side}
 use Rattle.hk_spec.specs.declared.expressions.Side.TheVariants.{Down, Up}
 use Rattle.hk_spec.specs.declared.parts.PropDecl.{PropDecl}
 use Rattle.hk_text.specs.Lexemes.{IsWord}
-use Rattle.hk_parse.specs.CondTexts.{CondText, cond_texts, IsCondText}
-use Rattle.hk_parse.specs.Headers.{AreParams}
-use Rattle.hk_parse.specs.LineTexts.{ParamText, InitText, StepText, LineText, Begin, Property, Test, Step, End, side_word, kind_word, step_texts, IsInitText, IsStepText, HasForm, SaysLine}
+use Rattle.hk_terms.specs.CondTexts.{CondText, cond_texts, IsCondText}
+use Rattle.hk_parse.specs.inside.Headers.{AreParams}
+use Rattle.hk_parse.specs.LineTexts.{ParamText, InitText, StepText, LineText, Begin, Property, Test, Step, End, side_word, step_texts, IsInitText, IsStepText, HasForm, SaysLine}
+use Rattle.hk_print.specs.Printed.{kind_word}
 use Rattle.hk_parse.specs.BlockLines.{Part, part_names, due, test_names, step_names, param_names, side_of, MayStand, BeginNameFault, BeginLimitFault, LineNameFault, LineLimitFault}
 use Rattle.hk_parse.proofs.LineReadings.{InitForm, min_number, max_number, two_numbers, some_numbers, all_numbers, init_form, StepForm, min_step, max_step, two_steps, some_step, all_step, step_form}
-use Rattle.hk_parse.proofs.DecidingFacts.{dec_true, dec_false, dec_both, dec_either, dec_not, dec_none, dec_any, dec_empty, dec_text, dec_word, dec_listed, Begins, dec_begins, After, dec_after}
-use Rattle.hk_parse.proofs.DecidingTexts.{dec_cond}
+use Rattle.hk_text.proofs.Deciding.{dec_true, dec_false, dec_both, dec_either, dec_not, dec_none, dec_any, dec_empty, dec_text, dec_word, Begins, dec_begins, After, dec_after}
+use Rattle.hk_terms.proofs.DecidingFacts.{dec_listed}
+use Rattle.hk_exprs.proofs.DecidingTexts.{dec_cond}
 use Rattle.hk_parse.proofs.DecidingParts.{dec_alone, dec_kind, dec_params, Inits, dec_init, Moves, dec_moves}
 use Rattle.hk_parse.proofs.DecidingNames.{dec_names_cond, dec_names_step, dec_within_cond, dec_small_step, dec_small_init, dec_if_some}
 

@@ -11,16 +11,18 @@ use Rattle.hk_spec.specs.declared.expressions.Side.{Side}
 use Rattle.hk_spec.specs.declared.parts.Param.{Param}
 use Rattle.hk_spec.specs.declared.parts.PropDecl.{PropDecl}
 use Rattle.hk_spec.specs.declared.parts.StepExpr.{StepExpr}
-use Rattle.hk_parse.specs.BlockLines.{Part, due, test_names, step_names, scope_of, MayStand, BeginNameFault, BeginLimitFault, LineNameFault, LineLimitFault, NamesStep, with_property, with_step, Begins, Adds, adds_property, adds_test, adds_step, IsGoodAfter}
+use Rattle.hk_parse.specs.BlockLines.{Part, due, test_names, step_names, MayStand, BeginNameFault, BeginLimitFault, LineNameFault, LineLimitFault, NamesStep, with_property, with_step, Begins, Adds, adds_property, adds_test, adds_step, IsGoodAfter}
+use Rattle.hk_terms.specs.Names.{scope_of}
 use Rattle.hk_parse.specs.Blocks.{IsPart}
 use Rattle.hk_parse.specs.LineTexts.{ParamText, InitText, StepText, LineText, Begin, Property, Test, Step, End, IsLineText, HasForm}
-use Rattle.hk_parse.specs.CondTexts.{CondText}
-use Rattle.hk_parse.specs.Names.{cond_depth}
-use Rattle.hk_parse.specs.Trees.{init_text, step_text, cond_text}
-use Rattle.hk_parse.proofs.TreeTextsConds.{cond_text_one}
+use Rattle.hk_terms.specs.CondTexts.{CondText}
+use Rattle.hk_terms.specs.Names.{cond_depth}
+use Rattle.hk_parse.specs.LineTrees.{init_text, step_text}
+use Rattle.hk_terms.specs.Trees.{cond_text}
+use Rattle.hk_terms.proofs.TreeTextsConds.{cond_text_one}
 use Rattle.hk_parse.proofs.TreeTextsLines.{test_free, step_free, init_one, step_one}
-use Rattle.hk_parse.proofs.TreesOfConds.{cond_there}
-use Rattle.hk_parse.proofs.TreesOfDecisions.{stable_both, stable_below, stable_cond, stable_small_cond, stable_decided, decided_text}
+use Rattle.hk_exprs.proofs.TreesOfConds.{cond_there}
+use Rattle.hk_terms.proofs.TreesOfDecisions.{stable_both, stable_below, stable_cond, stable_small_cond, stable_decided, decided_text}
 use Rattle.hk_parse.proofs.TreesOfLines.{init_there, step_there, stable_init, stable_names_step, stable_small_step}
 
 param_of : ParamText → Param

@@ -8,13 +8,14 @@ use Rattle.hk_spec.specs.declared.expressions.Side.TheVariants.{Down, Up}
 use Rattle.hk_spec.specs.declared.parts.ParamKind.{ParamKind}
 use Rattle.hk_spec.specs.declared.parts.ParamKind.TheVariants as param
 use Rattle.hk_spec.specs.declared.parts.PropDecl.{PropDecl}
-use Rattle.hk_parse.specs.SetTexts.{SetText, AreRisingNumbers, IsSetText}
-use Rattle.hk_parse.specs.NumTexts.{NumText, number_texts, IsSigned, IsNumText}
-use Rattle.hk_parse.specs.LineTexts.{ParamText, InitText, Single, Pair, Values, StepText, ToNumber, ToPair, ToSet, LineText, Begin, Property, Test, Step, End, param_word, side_word, kind_word, param_texts, init_texts, step_texts, IsInitText, IsStepText, HasForm, SaysLine}
+use Rattle.hk_terms.specs.SetTexts.{SetText, AreRisingNumbers, IsSetText}
+use Rattle.hk_terms.specs.NumTexts.{NumText, number_texts, IsSigned, IsNumText}
+use Rattle.hk_parse.specs.LineTexts.{ParamText, InitText, Single, Pair, Values, StepText, ToNumber, ToPair, ToSet, LineText, Begin, Property, Test, Step, End, side_word, param_texts, init_texts, step_texts, IsInitText, IsStepText, HasForm, SaysLine}
+use Rattle.hk_print.specs.Printed.{param_word, kind_word}
 use Rattle.hk_parse.specs.BlockLines.{Part, due, MayStand}
-use Rattle.hk_parse.proofs.TokenTexts.{differ, same_first, same_rest, mark_no_number, mark_no_word}
-use Rattle.hk_parse.proofs.MachineAtoms.{listed_one}
-use Rattle.hk_parse.proofs.MachineReads.{cond_one, num_one, set_one, pair_one}
+use Rattle.hk_text.proofs.TokenTexts.{differ, same_first, same_rest, mark_no_number, mark_no_word}
+use Rattle.hk_terms.proofs.MachineAtoms.{listed_one}
+use Rattle.hk_exprs.proofs.MachineReads.{cond_one, num_one, set_one, pair_one}
 use Rattle.hk_parse.proofs.Parameters.{param_word_word}
 
 -- the word of a side, of a kind, of the kind of a parameter is the word of one

@@ -13,43 +13,26 @@ use Rattle.hk_spec.specs.declared.expressions.NumExpr.{NumExpr}
 use Rattle.hk_spec.specs.declared.expressions.SetExpr.{SetExpr}
 use Rattle.hk_spec.specs.declared.expressions.Side.{Side}
 use Rattle.hk_spec.specs.declared.parts.Param.{Param}
-use Rattle.hk_spec.specs.declared.parts.ParamKind.{ParamKind}
-use Rattle.hk_spec.specs.declared.parts.ParamKind.TheVariants as param
 use Rattle.hk_spec.specs.declared.parts.PropDecl.{PropDecl}
 use Rattle.hk_spec.specs.declared.parts.StepExpr.{StepExpr}
 use Rattle.hk_spec.specs.declared.parts.StepExpr.TheVariants as step
-use Rattle.hk_parse.specs.BlockLines.{scope_of}
-use Rattle.hk_parse.specs.Expressions.{Naming, set_pieces, num_pieces, cond_pieces}
-use Rattle.hk_parse.specs.Headers.{param_text}
-use Rattle.hk_parse.specs.LineTexts as line
-use Rattle.hk_parse.specs.LineTexts.{Begin, Property, Test, Step, End, param_texts, side_word, init_texts, step_texts, line_texts, HasForm}
-use Rattle.hk_parse.specs.Names.{Names}
-use Rattle.hk_parse.specs.Pieces.{piece, tokens_of}
-use Rattle.hk_parse.specs.Printed as printed
-use Rattle.hk_parse.specs.Printed.{param_pieces, comma_params, params_pieces, init_pieces, property_line, step_pieces, step_line}
-use Rattle.hk_parse.specs.NumTexts.{num_texts}
-use Rattle.hk_parse.specs.SetTexts.{in_parentheses, set_texts}
-use Rattle.hk_parse.specs.Trees.{init_text, step_text, set_text, num_text, cond_text}
+use Rattle.hk_terms.specs.Names.{scope_of}
+use Rattle.hk_print.specs.Expressions.{Naming, set_pieces, num_pieces, cond_pieces}
+use Rattle.hk_parse.specs.inside.Headers.{param_text}
+use Rattle.hk_parse.specs.LineTexts.{Begin, Property, Test, Step, End, param_texts, side_word, init_texts, step_texts, line_texts}
+use Rattle.hk_terms.specs.Names.{Names}
+use Rattle.hk_print.specs.Pieces.{piece, tokens_of}
+use Rattle.hk_print.specs.Printed.{param_word, kind_word, param_pieces, comma_params, params_pieces, init_pieces, property_line, step_pieces, step_line}
+use Rattle.hk_terms.specs.NumTexts.{num_texts}
+use Rattle.hk_terms.specs.SetTexts.{in_parentheses, set_texts}
+use Rattle.hk_parse.specs.LineTrees.{init_text, step_text}
+use Rattle.hk_terms.specs.Trees.{set_text, num_text, cond_text}
 use Rattle.hk_parse.proofs.PrintedPieces.{HasTokens, after_token, both_tokens, literal_tokens, signed_tokens}
 use Rattle.hk_parse.proofs.PrintedTexts.{Covers, set_tokens, num_tokens, cond_tokens}
 
-param_word_same : (kind : ParamKind) → printed.param_word kind ≡ line.param_word kind
-param_word_same param.Num = refl
-param_word_same param.Set = refl
-param_word_same param.List = refl
-
-kind_word_same : (kind : Kind) → printed.kind_word kind ≡ line.kind_word kind
-kind_word_same Min = refl
-kind_word_same Max = refl
-kind_word_same Interval = refl
-kind_word_same SomeBits = refl
-kind_word_same AllBits = refl
-
 params_closed : (p : Param) (params : List Param) → tokens_of (param_pieces p ++ (comma_params params ++ piece (codes ")"))) ≡ param_texts (map param_text (p ∷ params)) ++ codes ")" ∷ []
-params_closed p [] = ap (λ word. word ∷ p.name ∷ codes ")" ∷ []) (param_word_same p.kind)
-params_closed p (next ∷ params) =
-    ap (λ word. word ∷ p.name ∷ codes "," ∷ tokens_of (param_pieces next ++ (comma_params params ++ piece (codes ")")))) (param_word_same p.kind)
-    ∙ ap (λ tokens. line.param_word p.kind ∷ p.name ∷ codes "," ∷ tokens) (params_closed next params)
+params_closed p [] = refl
+params_closed p (next ∷ params) = ap (λ tokens. param_word p.kind ∷ p.name ∷ codes "," ∷ tokens) (params_closed next params)
 
 params_tokens : (params : List Param) → HasTokens (params_pieces params) (in_parentheses (param_texts (map param_text params)))
 params_tokens [] = record { are = refl }
@@ -68,7 +51,7 @@ init_tokens (property.Bits set) = literal_tokens set
 pub property_tokens : (side : Side) (p : PropDecl) → HasTokens (property_line (side_word side) p) (line_texts (Property side p.name p.kind (init_text p.init)))
 property_tokens side p =
     let value = init_tokens p.init in
-    record { are = ap (λ word. side_word side ∷ p.name ∷ word ∷ tokens_of (init_pieces p.init)) (kind_word_same p.kind) ∙ ap (λ tokens. side_word side ∷ p.name ∷ line.kind_word p.kind ∷ tokens) value.are }
+    record { are = ap (λ tokens. side_word side ∷ p.name ∷ kind_word p.kind ∷ tokens) value.are }
 
 module _ {naming : Naming} {names : Names} (covers : Covers naming names) where
   -- the tokens of the line of the test

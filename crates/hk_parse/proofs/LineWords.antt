@@ -5,10 +5,10 @@ use Rattle.hk_kinds.specs.declared.kinds.Kind.{Kind}
 use Rattle.hk_spec.specs.declared.expressions.Side.{Side}
 use Rattle.hk_spec.specs.declared.expressions.Side.TheVariants.{Down, Up}
 use Rattle.hk_text.specs.Lexemes.{IsWord}
-use Rattle.hk_parse.specs.CondTexts.{CondText, cond_texts, IsCondText}
-use Rattle.hk_parse.specs.Headers.{ArePropertyTexts}
+use Rattle.hk_terms.specs.CondTexts.{CondText, cond_texts, IsCondText}
+use Rattle.hk_parse.specs.inside.Headers.{ArePropertyTexts}
 use Rattle.hk_parse.specs.LineTexts.{LineText, ParamText, Begin, Property, Test, Step, End, InitText, StepText, side_word, step_texts, IsStepText, SaysLine}
-use Rattle.hk_parse.proofs.TokenTexts.{apart, same_rest}
+use Rattle.hk_text.proofs.TokenTexts.{apart, same_rest}
 
 -- a side has one word
 side_one : (side other : Side) {texts xs ys : List (List ℕ)} → texts ≡ side_word side ∷ xs → texts ≡ side_word other ∷ ys → side ≡ other

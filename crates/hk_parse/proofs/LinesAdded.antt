@@ -4,10 +4,11 @@ use Rattle.hk_kinds.specs.declared.kinds.Kind.{Kind}
 use Rattle.hk_kinds.specs.declared.properties.Prop.{Prop}
 use Rattle.hk_spec.specs.declared.expressions.Side.{Side}
 use Rattle.hk_spec.specs.declared.expressions.Side.TheVariants.{Down, Up}
-use Rattle.hk_parse.specs.BlockFaults.{GoesOn, IsDeclared, IsLineFault, IsPropertyFault}
+use Rattle.hk_parse.specs.BlockFaults.{GoesOn, IsLineFault}
+use Rattle.hk_parse.specs.inside.LineParts.{IsDeclared, IsPropertyFault}
 use Rattle.hk_parse.specs.BlockLines.{Part, MayStand, Adds, adds_property}
 use Rattle.hk_parse.specs.Blocks.{AwaitsProperty}
-use Rattle.hk_parse.specs.Headers.{ArePropertyTexts, IsInitOf, ReadsProperty}
+use Rattle.hk_parse.specs.inside.Headers.{ArePropertyTexts, IsInitOf, ReadsProperty}
 use Rattle.hk_parse.specs.LineTexts.{Property, InitText, side_word, SaysLine}
 use Rattle.hk_parse.specs.declared.faults.BlockFault.{BlockFault}
 use Rattle.hk_parse.specs.declared.faults.BlockFault.TheVariants.{Syntax, Name, Limit, Memory}

@@ -11,13 +11,13 @@ use Rattle.hk_spec.specs.declared.parts.Param.{Param}
 use Rattle.hk_spec.specs.declared.parts.PropDecl.{PropDecl}
 use Rattle.hk_text.specs.Lexemes.{IsWord}
 use Rattle.hk_parse.specs.BlockLines.{IsTaken}
-use Rattle.hk_parse.specs.Expressions.{Naming, name_at, names_of_side, names_of_properties}
-use Rattle.hk_parse.specs.Names.{Names}
-use Rattle.hk_parse.specs.Trees.{properties_of}
+use Rattle.hk_print.specs.Expressions.{Naming, name_at, names_of_side, names_of_properties}
+use Rattle.hk_terms.specs.Names.{Names}
+use Rattle.hk_terms.specs.Trees.{properties_of}
 use Rattle.hk_parse.proofs.FittingTexts.{AreWords}
-use Rattle.hk_parse.proofs.NameLists.{distinct_twice, found_listed}
+use Rattle.hk_terms.proofs.NameLists.{distinct_twice, found_listed}
 use Rattle.hk_parse.proofs.PrintedTexts.{Covers}
-use Rattle.hk_parse.proofs.PrintedTokens.{free_name_word}
+use Rattle.hk_print.proofs.PrintedTokens.{free_name_word}
 
 -- the names of parameters
 abbrev pub names_of_params : List Param → List (List ℕ)

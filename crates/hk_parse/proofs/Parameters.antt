@@ -6,9 +6,10 @@ use Rattle.std.proofs.lemmas.List.Elements.{All-nil, All-head, All-tail, All-pus
 use Rattle.hk_spec.specs.declared.parts.ParamKind.{ParamKind}
 use Rattle.hk_spec.specs.declared.parts.ParamKind.TheVariants as kind
 use Rattle.hk_text.specs.Lexemes.{IsWord}
-use Rattle.hk_parse.specs.Headers.{AreParams, ParamThen}
-use Rattle.hk_parse.specs.LineTexts.{ParamText, param_word, param_texts}
-use Rattle.hk_parse.proofs.TokenTexts.{apart, same_rest}
+use Rattle.hk_parse.specs.inside.Headers.{AreParams, ParamThen}
+use Rattle.hk_parse.specs.LineTexts.{ParamText, param_texts}
+use Rattle.hk_print.specs.Printed.{param_word}
+use Rattle.hk_text.proofs.TokenTexts.{apart, same_rest}
 
 -- the words of the kinds of parameters are words
 pub param_word_word : (kind : ParamKind) → IsWord (param_word kind)

@@ -10,12 +10,14 @@ use Rattle.hk_spec.specs.declared.parts.PropDecl.{PropDecl}
 use Rattle.hk_spec.specs.declared.parts.StepExpr.{StepExpr}
 use Rattle.hk_text.specs.Lexemes.{IsWord}
 use Rattle.hk_parse.specs.BlockFaults.{GoesOn}
-use Rattle.hk_parse.specs.BlockLines.{Part, part_names, due, test_names, step_names, side_of, scope_of, MayStand, NamesStep, SmallInit, with_property, with_step, adds_property, adds_test, adds_step}
-use Rattle.hk_parse.specs.Expressions.{Naming, cond_pieces}
+use Rattle.hk_parse.specs.BlockLines.{Part, part_names, due, test_names, step_names, side_of, MayStand, NamesStep, SmallInit, with_property, with_step, adds_property, adds_test, adds_step}
+use Rattle.hk_terms.specs.Names.{scope_of}
+use Rattle.hk_print.specs.Expressions.{Naming, cond_pieces}
 use Rattle.hk_parse.specs.LineTexts.{Property, Test, Step, side_word, HasForm}
-use Rattle.hk_parse.specs.Pieces.{piece, tokens_of}
-use Rattle.hk_parse.specs.Printed.{property_line, step_line}
-use Rattle.hk_parse.specs.Trees.{init_text, step_text, cond_text}
+use Rattle.hk_print.specs.Pieces.{piece, tokens_of}
+use Rattle.hk_print.specs.Printed.{property_line, step_line}
+use Rattle.hk_parse.specs.LineTrees.{init_text, step_text}
+use Rattle.hk_terms.specs.Trees.{cond_text}
 use Rattle.hk_parse.proofs.FittingLines.{init_written, init_small, step_fitting, cond_fitting}
 use Rattle.hk_parse.proofs.FittingTexts.{AreWords}
 use Rattle.hk_parse.proofs.LineTokens.{property_tokens, test_tokens, step_tokens}

@@ -7,7 +7,8 @@ use Rattle.hk_spec.specs.Specifications.{IsSpecification, test_scope}
 use Rattle.hk_spec.specs.declared.expressions.Cond.{Cond}
 use Rattle.hk_spec.specs.declared.expressions.Side.TheVariants.{Down, Up}
 use Rattle.hk_spec.specs.declared.parts.StepExpr.{StepExpr}
-use Rattle.hk_parse.specs.BlockLines.{Part, Begins, IsGoodAfter, MayStand, LineNameFault, LineLimitFault, Adds, adds_property, adds_test, adds_step, due, test_names, scope_of, with_step, whole_spec}
+use Rattle.hk_parse.specs.BlockLines.{Part, Begins, IsGoodAfter, MayStand, LineNameFault, LineLimitFault, Adds, adds_property, adds_test, adds_step, due, test_names, with_step, whole_spec}
+use Rattle.hk_terms.specs.Names.{scope_of}
 use Rattle.hk_parse.specs.Blocks.{IsPart, FitsStep}
 use Rattle.hk_parse.specs.LineTexts.{ParamText, LineText, Begin, Property, IsLineText}
 use Rattle.hk_parse.proofs.Beginnings.{begun_is_part}

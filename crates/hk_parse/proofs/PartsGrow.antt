@@ -19,8 +19,8 @@ use Rattle.hk_spec.specs.declared.parts.PropDecl.{PropDecl}
 use Rattle.hk_spec.specs.declared.parts.StepExpr.{StepExpr}
 use Rattle.hk_parse.specs.BlockLines.{Part, part_names, with_property}
 use Rattle.hk_parse.specs.Blocks.{IsPart, AreFirstSteps, FitsProperty, FitsTest}
-use Rattle.hk_parse.proofs.FreeNames.{word_is_free}
-use Rattle.hk_parse.proofs.NameLists.{any_of_map, distinct_push, listed_found}
+use Rattle.hk_terms.proofs.FreeNames.{word_is_free}
+use Rattle.hk_terms.proofs.NameLists.{any_of_map, distinct_push, listed_found}
 
 -- values that have a shape, and one more of a kind more
 shape_push : {kinds : List Kind} {values : List Prop} {kind : Kind} {value : Prop} → HasShape kinds values → IsOfKind kind value → HasShape (kinds ++ kind ∷ []) (values ++ value ∷ [])

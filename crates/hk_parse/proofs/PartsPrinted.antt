@@ -7,9 +7,9 @@ use Rattle.hk_spec.specs.declared.parts.Param.{Param}
 use Rattle.hk_spec.specs.declared.parts.PropDecl.{PropDecl}
 use Rattle.hk_spec.specs.declared.parts.StepExpr.{StepExpr}
 use Rattle.hk_parse.specs.BlockLines.{Part}
-use Rattle.hk_parse.specs.Expressions.{Naming, cond_pieces}
-use Rattle.hk_parse.specs.Pieces.{piece}
-use Rattle.hk_parse.specs.Printed.{params_pieces, property_line, step_line, step_lines}
+use Rattle.hk_print.specs.Expressions.{Naming, cond_pieces}
+use Rattle.hk_print.specs.Pieces.{piece}
+use Rattle.hk_print.specs.Printed.{params_pieces, property_line, step_line, step_lines}
 use Rattle.hk_parse.proofs.NamesOfSpecs.{naming_for, none_there}
 
 -- the line of the test, where there is one

@@ -19,21 +19,22 @@ use Rattle.hk_spec.specs.declared.parts.PropDecl.{PropDecl}
 use Rattle.hk_spec.specs.declared.parts.StepExpr.{StepExpr}
 use Rattle.hk_text.specs.Lexemes.{IsWord}
 use Rattle.hk_parse.specs.BlockFaults.{BeginsWith, GoesOn, Ends}
-use Rattle.hk_parse.specs.BlockLines.{Part, part_names, due, step_names, scope_of, param_names, BeginNameFault, BeginLimitFault, with_step}
-use Rattle.hk_parse.specs.Expressions.{naming_of, names_of_properties}
-use Rattle.hk_parse.specs.Headers.{param_text}
+use Rattle.hk_parse.specs.BlockLines.{Part, part_names, due, step_names, param_names, BeginNameFault, BeginLimitFault, with_step}
+use Rattle.hk_terms.specs.Names.{scope_of}
+use Rattle.hk_print.specs.Expressions.{naming_of, names_of_properties}
+use Rattle.hk_parse.specs.inside.Headers.{param_text}
 use Rattle.hk_parse.specs.LineTexts.{ParamText}
-use Rattle.hk_parse.specs.Pieces.{piece, tokens_of}
-use Rattle.hk_parse.specs.Printed.{first_line, property_line, step_lines, declaration_lines, rule_lines, spec_lines}
+use Rattle.hk_print.specs.Pieces.{piece, tokens_of}
+use Rattle.hk_print.specs.Printed.{first_line, property_line, step_lines, declaration_lines, rule_lines, spec_lines}
 use Rattle.hk_parse.specs.SpecTexts.{Before, Within, Whole}
 use Rattle.hk_parse.proofs.FittingTexts.{AreWords}
-use Rattle.hk_parse.proofs.FreeNames.{any_to_map}
+use Rattle.hk_terms.proofs.FreeNames.{any_to_map}
 use Rattle.hk_parse.proofs.GoodTexts.{text_first, text_later, text_end, AreGoodTexts, no_text, then_text, AreGoodPieces, then_pieces}
 use Rattle.hk_parse.proofs.LineTokens.{first_tokens, end_tokens}
 use Rattle.hk_parse.proofs.NamesOfSpecs.{names_of_params, all_covered, down_covered, up_covered, free_words, free_short, free_unreserved, free_before, free_after, IsNewName, new_name}
 use Rattle.hk_parse.proofs.PartLines.{got_after, property_goes_on, test_goes_on, step_goes_on}
 use Rattle.hk_parse.proofs.PrintedTexts.{Covers}
-use Rattle.hk_parse.proofs.PrintedTokens.{name_word, free_name_word}
+use Rattle.hk_print.proofs.PrintedTokens.{name_word, free_name_word}
 
 -- what no free name has none of them has
 none_of_free : (P : List ℕ → Type 0) → ((name : List ℕ) → is_free_name name ≡ true → P name → ⊥) → (names : List (List ℕ)) → list_all is_free_name names ≡ true → Any P names → ⊥

@@ -6,11 +6,11 @@ use Rattle.std.specs.List.{join_by}
 use Rattle.std.proofs.lemmas.Grind.{flat_map-append}
 use Rattle.std.proofs.lemmas.List.{append_assoc}
 use Rattle.hk_text.specs.Sets as hk_text
-use Rattle.hk_parse.specs.Expressions.{operation, call_of_two, membership}
-use Rattle.hk_parse.specs.NumTexts.{number_texts}
-use Rattle.hk_parse.specs.Pieces.{piece, tokens_of, around, braced, literal_pieces, signed_pieces}
-use Rattle.hk_parse.specs.SetTexts.{listed, in_parentheses}
-use Rattle.hk_parse.specs.Trees.{members, member_texts, is_negative, digits_of}
+use Rattle.hk_print.specs.Expressions.{operation, call_of_two, membership}
+use Rattle.hk_terms.specs.NumTexts.{number_texts}
+use Rattle.hk_print.specs.Pieces.{piece, tokens_of, around, braced, literal_pieces, signed_pieces}
+use Rattle.hk_terms.specs.SetTexts.{listed, in_parentheses}
+use Rattle.hk_terms.specs.Trees.{members, member_texts, is_negative, digits_of}
 
 -- the tokens of pieces in a row are their tokens in a row
 pub tokens_append : (a b : List (List (List ℕ))) → tokens_of (a ++ b) ≡ tokens_of a ++ tokens_of b

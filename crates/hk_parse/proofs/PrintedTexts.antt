@@ -21,14 +21,14 @@ use Rattle.hk_spec.specs.declared.expressions.Side.TheVariants.{Down, Up}
 use Rattle.hk_spec.specs.declared.parts.Param.{Param}
 use Rattle.hk_spec.specs.declared.parts.ParamKind.{ParamKind}
 use Rattle.hk_spec.specs.declared.parts.PropDecl.{PropDecl}
-use Rattle.hk_parse.specs.BlockLines.{scope_of}
-use Rattle.hk_parse.specs.CondTexts.{CondText, cond_texts}
-use Rattle.hk_parse.specs.Expressions.{Naming, name_at, names_of_side, set_pieces, set_step, num_pieces, num_step, cond_pieces, cond_step}
-use Rattle.hk_parse.specs.Names.{Names}
-use Rattle.hk_parse.specs.NumTexts.{NumText, num_texts}
-use Rattle.hk_parse.specs.Pieces.{tokens_of}
-use Rattle.hk_parse.specs.SetTexts.{SetText, set_texts}
-use Rattle.hk_parse.specs.Trees.{param_name, property_name, properties_of, set_text, set_text_step, num_text, num_text_step, cond_text, cond_text_step}
+use Rattle.hk_terms.specs.Names.{scope_of}
+use Rattle.hk_terms.specs.CondTexts.{CondText, cond_texts}
+use Rattle.hk_print.specs.Expressions.{Naming, name_at, names_of_side, set_pieces, set_step, num_pieces, num_step, cond_pieces, cond_step}
+use Rattle.hk_terms.specs.Names.{Names}
+use Rattle.hk_terms.specs.NumTexts.{NumText, num_texts}
+use Rattle.hk_print.specs.Pieces.{tokens_of}
+use Rattle.hk_terms.specs.SetTexts.{SetText, set_texts}
+use Rattle.hk_terms.specs.Trees.{param_name, property_name, properties_of, set_text, set_text_step, num_text, num_text_step, cond_text, cond_text_step}
 use Rattle.hk_parse.proofs.PrintedPieces.{HasTokens, operation_tokens, call_tokens, one_call_tokens, one_operation_tokens, membership_tokens, literal_tokens, signed_tokens}
 
 -- the naming has each name at its place

@@ -13,11 +13,11 @@ use Rattle.hk_parse.specs.BlockFaults.{IsAdded, Ends}
 use Rattle.hk_parse.specs.BlockLines.{Part}
 use Rattle.hk_parse.specs.Blocks.{IsWhole}
 use Rattle.hk_parse.specs.SpecTexts.{Stage, Before, Within, Whole, IsGoodLine, good_empty, good_later, good_end, AreGoodLines, no_line, then_line, IsBadAt, bad_byte, bad_texts, IsFaultAt, IsFirstBad, WritesSpec, IsSpecFault}
-use Rattle.hk_parse.specs.Stages.{StopsAt, text_fault, fault_of}
+use Rattle.hk_parse.specs.inside.Stages.{StopsAt, text_fault, fault_of}
 use Rattle.hk_parse.specs.declared.faults.BlockFault.{BlockFault}
 use Rattle.hk_parse.specs.declared.faults.BlockFault.TheVariants.{Syntax, Name, Limit, Memory}
 use Rattle.hk_parse.specs.declared.faults.SpecFault.TheVariants as spec
-use Rattle.hk_parse.proofs.SignedTexts.{texts_over, texts_go_on}
+use Rattle.hk_text.proofs.TokenTexts.{texts_over, texts_go_on}
 
 -- a line has the texts of its tokens
 pub has_texts : (line : List ℕ) (tokens : List Token) → AreTokensOf line tokens → HasTexts line (texts_of line tokens)

@@ -3,9 +3,10 @@ use Rattle.std.proofs.Common.{◌≡◌, ℕ, List, ◌∷◌, refl, sym, ◌∙
 use Rattle.hk_kinds.specs.declared.kinds.Kind.{Kind}
 use Rattle.hk_kinds.specs.declared.kinds.Kind.TheVariants.{Min, Max, Interval, SomeBits, AllBits}
 use Rattle.hk_text.specs.Lexemes.{IsWord}
-use Rattle.hk_parse.specs.Headers.{ArePropertyTexts}
-use Rattle.hk_parse.specs.LineTexts.{InitText, IsInitText, init_texts, kind_word}
-use Rattle.hk_parse.proofs.TokenTexts.{differ, same_first, same_rest}
+use Rattle.hk_parse.specs.inside.Headers.{ArePropertyTexts}
+use Rattle.hk_parse.specs.LineTexts.{InitText, IsInitText, init_texts}
+use Rattle.hk_print.specs.Printed.{kind_word}
+use Rattle.hk_text.proofs.TokenTexts.{differ, same_first, same_rest}
 
 -- the words of kinds are words
 kind_word_word : (kind : Kind) → IsWord (kind_word kind)

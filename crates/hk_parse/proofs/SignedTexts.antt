@@ -1,27 +1,15 @@
 -- Numbers with a sign or without, as texts begin with them.
-use Rattle.std.proofs.Common.{◌≡◌, ◌≢◌, ◌≤◌, ◌==◌, ℕ, ℤ, pos, zero, suc, Bool, true, false, Option, Some, List, [], ◌∷◌, ◌++◌, length, w64, of_z, to_z, refl, sym, ap, ◌∙◌, subst, arith}
+use Rattle.std.proofs.Common.{◌≡◌, ◌≢◌, ◌≤◌, ◌==◌, ℕ, ℤ, pos, zero, suc, Bool, true, false, Option, Some, List, [], ◌∷◌, ◌++◌, w64, of_z, to_z, refl, sym, ap, ◌∙◌, subst, arith}
 use Rattle.std.specs.Prelude.{codes, neg_ℤ}
-use Rattle.std.proofs.lemmas.Bool.Decides.{nat_tests}
 use Rattle.std.proofs.lemmas.Int.{ints, to_z-of_z}
 use Rattle.std.proofs.lemmas.List.{append-nil}
 use Rattle.hk_kinds.specs.Limits.{IsWithinLimit}
 use Rattle.hk_text.specs.Numbers.{IsNumber}
-use Rattle.hk_text.specs.Texts.{texts_of}
-use Rattle.hk_text.specs.declared.tokenizer.Token.{Token}
 use Rattle.hk_text.proofs.Digits.{IsNumber-one}
-use Rattle.hk_parse.specs.Headers.{IsSignedOf, SignedThen}
-use Rattle.hk_parse.specs.NumTexts.{IsSigned, number_texts}
-use Rattle.hk_parse.proofs.LiteralTexts.{digits_are, writes_up_to}
-use Rattle.hk_parse.proofs.TokenTexts.{same_first, same_rest, mark_no_number}
-
--- no tokens have no texts, and some have some
-pub texts_over : (line : List ℕ) (tokens : List Token) → (length tokens == 0) ≡ true → texts_of line tokens ≡ []
-texts_over line [] none = refl
-texts_over line (token ∷ more) none = let never : ⊥ = grind (arith, nat_tests) in absurd never
-
-pub texts_go_on : (line : List ℕ) (tokens : List Token) → (length tokens == 0) ≡ false → texts_of line tokens ≢ []
-texts_go_on line [] some = λ _. cc
-texts_go_on line (token ∷ more) some = λ none. cc
+use Rattle.hk_parse.specs.inside.Headers.{IsSignedOf, SignedThen}
+use Rattle.hk_terms.specs.NumTexts.{IsSigned, number_texts}
+use Rattle.hk_terms.proofs.LiteralTexts.{digits_are, writes_up_to}
+use Rattle.hk_text.proofs.TokenTexts.{same_first, same_rest, mark_no_number}
 
 -- a number within the limit survives in a word of 64 bits
 pub within_in_word : (n : ℤ) → IsWithinLimit n → to_z w64 (of_z w64 n) ≡ n

@@ -7,17 +7,17 @@ use Rattle.hk_spec.specs.Scopes.{is_good_num, is_good_set}
 use Rattle.hk_spec.specs.declared.expressions.NumExpr.{NumExpr}
 use Rattle.hk_spec.specs.declared.expressions.SetExpr.{SetExpr}
 use Rattle.hk_spec.specs.declared.parts.StepExpr.TheVariants as step
-use Rattle.hk_parse.specs.BlockLines.{scope_of}
+use Rattle.hk_terms.specs.Names.{scope_of}
 use Rattle.hk_parse.specs.LineTexts.{ToNumber, ToPair, ToSet}
-use Rattle.hk_parse.specs.Names.{Names, set_depth, num_depth}
-use Rattle.hk_parse.specs.NumTexts.{NumText}
-use Rattle.hk_parse.specs.Reads.{ReadsNum, ReadsPair, ReadsSet}
-use Rattle.hk_parse.specs.SetTexts.{SetText}
-use Rattle.hk_parse.specs.StepReads.{ReadsStep}
-use Rattle.hk_parse.specs.Trees.{num_text, set_text}
-use Rattle.hk_parse.specs.declared.flaws.Flaw.{Flaw}
-use Rattle.hk_parse.specs.declared.flaws.Flaw.TheVariants.{Name, Limit}
-use Rattle.hk_parse.proofs.Depths.{num_deep, set_deep}
+use Rattle.hk_terms.specs.Names.{Names, set_depth, num_depth}
+use Rattle.hk_terms.specs.NumTexts.{NumText}
+use Rattle.hk_exprs.specs.Reads.{ReadsNum, ReadsPair, ReadsSet}
+use Rattle.hk_terms.specs.SetTexts.{SetText}
+use Rattle.hk_parse.specs.inside.StepReads.{ReadsStep}
+use Rattle.hk_terms.specs.Trees.{num_text, set_text}
+use Rattle.hk_terms.specs.declared.flaws.Flaw.{Flaw}
+use Rattle.hk_terms.specs.declared.flaws.Flaw.TheVariants.{Name, Limit}
+use Rattle.hk_terms.proofs.Depths.{num_deep, set_deep}
 
 -- what is written of a good expression is not too deep
 pub num_shallow : (names : Names) {text : NumText} (e : NumExpr) → num_text names e ≡ text → is_good_num (scope_of names) e ≡ true → num_depth text ≤ 32

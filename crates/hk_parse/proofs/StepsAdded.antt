@@ -7,7 +7,7 @@ use Rattle.hk_parse.specs.BlockFaults.{GoesOn, IsLineFault}
 use Rattle.hk_parse.specs.BlockLines.{Part, MayStand, Adds, adds_step, NamesStep, due, step_names, with_step, LineNameFault}
 use Rattle.hk_parse.specs.Blocks.{FitsStep}
 use Rattle.hk_parse.specs.LineTexts.{Step, StepText, HasForm, SaysLine}
-use Rattle.hk_parse.specs.StepReads.{AreNamedStepTexts, IsStepFault, ReadsStepOf}
+use Rattle.hk_parse.specs.inside.StepReads.{AreNamedStepTexts, IsStepFault, ReadsStepOf}
 use Rattle.hk_parse.specs.declared.faults.BlockFault.{BlockFault}
 use Rattle.hk_parse.specs.declared.faults.BlockFault.TheVariants.{Syntax, Name, Limit, Memory}
 use Rattle.hk_parse.proofs.LineWords.{step_line}

@@ -7,9 +7,10 @@ use Rattle.hk_spec.specs.Specifications.{IsSpecification, kinds_of_properties, a
 use Rattle.hk_spec.specs.declared.expressions.Cond.{Cond}
 use Rattle.hk_spec.specs.declared.parts.PropDecl.{PropDecl}
 use Rattle.hk_spec.specs.declared.parts.StepExpr.{StepExpr}
-use Rattle.hk_parse.specs.BlockLines.{Part, due, scope_of, step_names, test_names, with_step}
+use Rattle.hk_parse.specs.BlockLines.{Part, due, step_names, test_names, with_step}
+use Rattle.hk_terms.specs.Names.{scope_of}
 use Rattle.hk_parse.specs.Blocks.{IsPart, AreFirstSteps, FitsStep}
-use Rattle.hk_parse.proofs.BestScope.{cond_good_with_best}
+use Rattle.hk_print.proofs.BestScope.{cond_good_with_best}
 use Rattle.hk_parse.proofs.PartsGrow.{after_push}
 
 -- one step more

@@ -5,18 +5,20 @@ use Rattle.std.proofs.lemmas.Bool.{and_parts, leb-true}
 use Rattle.hk_spec.specs.Scopes as scopes
 use Rattle.hk_spec.specs.Scopes.{is_good_cond}
 use Rattle.hk_spec.specs.declared.expressions.Cond.{Cond}
-use Rattle.hk_parse.specs.BlockFaults.{GoesOn, IsLineFault, IsTestFault}
-use Rattle.hk_parse.specs.BlockLines.{Part, MayStand, Adds, adds_test, scope_of, test_names}
+use Rattle.hk_parse.specs.BlockFaults.{GoesOn, IsLineFault}
+use Rattle.hk_parse.specs.inside.LineParts.{IsTestFault}
+use Rattle.hk_parse.specs.BlockLines.{Part, MayStand, Adds, adds_test, test_names}
+use Rattle.hk_terms.specs.Names.{scope_of}
 use Rattle.hk_parse.specs.Blocks.{FitsTest}
-use Rattle.hk_parse.specs.CondTexts.{CondText}
+use Rattle.hk_terms.specs.CondTexts.{CondText}
 use Rattle.hk_parse.specs.LineTexts.{Test, SaysLine}
-use Rattle.hk_parse.specs.Names.{Names, cond_depth}
-use Rattle.hk_parse.specs.Reads.{ReadsCond}
-use Rattle.hk_parse.specs.Trees.{cond_text}
+use Rattle.hk_terms.specs.Names.{Names, cond_depth}
+use Rattle.hk_exprs.specs.Reads.{ReadsCond}
+use Rattle.hk_terms.specs.Trees.{cond_text}
 use Rattle.hk_parse.specs.declared.faults.BlockFault.{BlockFault}
 use Rattle.hk_parse.specs.declared.faults.BlockFault.TheVariants.{Syntax, Name, Limit, Memory}
-use Rattle.hk_parse.specs.declared.flaws.Flaw.{Flaw}
-use Rattle.hk_parse.proofs.Depths.{cond_deep}
+use Rattle.hk_terms.specs.declared.flaws.Flaw.{Flaw}
+use Rattle.hk_terms.proofs.Depths.{cond_deep}
 use Rattle.hk_parse.proofs.LineWords.{test_line}
 
 -- what is written of a good condition is not too deep

@@ -21,17 +21,19 @@ use Rattle.hk_spec.specs.declared.parts.Param.{Param}
 use Rattle.hk_spec.specs.declared.parts.PropDecl.{PropDecl}
 use Rattle.hk_spec.specs.declared.parts.StepExpr.{StepExpr}
 use Rattle.hk_spec.specs.declared.parts.StepExpr.TheVariants as step
-use Rattle.hk_parse.specs.BlockLines.{Part, test_names, step_names, scope_of}
+use Rattle.hk_parse.specs.BlockLines.{Part, test_names, step_names}
+use Rattle.hk_terms.specs.Names.{scope_of}
 use Rattle.hk_parse.specs.Blocks.{IsPart}
 use Rattle.hk_parse.specs.LineTexts.{Single, Pair, Values, ToNumber, ToPair, ToSet}
-use Rattle.hk_parse.specs.Names.{Names}
-use Rattle.hk_parse.specs.NumTexts.{NumText}
-use Rattle.hk_parse.specs.SetTexts.{SetText}
-use Rattle.hk_parse.specs.Trees.{is_negative, digits_of, init_text, step_text}
-use Rattle.hk_parse.proofs.TreeTextsLiterals.{number_one, set_one}
-use Rattle.hk_parse.proofs.TreeTextsNums.{num_text_one}
-use Rattle.hk_parse.proofs.TreeTextsPlaces.{AreFree}
-use Rattle.hk_parse.proofs.TreeTextsSets.{set_text_one}
+use Rattle.hk_terms.specs.Names.{Names}
+use Rattle.hk_terms.specs.NumTexts.{NumText}
+use Rattle.hk_terms.specs.SetTexts.{SetText}
+use Rattle.hk_terms.specs.Trees.{is_negative, digits_of}
+use Rattle.hk_parse.specs.LineTrees.{init_text, step_text}
+use Rattle.hk_terms.proofs.TreeTextsLiterals.{number_one, set_one}
+use Rattle.hk_terms.proofs.TreeTextsNums.{num_text_one}
+use Rattle.hk_terms.proofs.TreeTextsPlaces.{AreFree}
+use Rattle.hk_terms.proofs.TreeTextsSets.{set_text_one}
 
 -- some names of a list that are left out
 unseen_without : (test : List ℕ → Bool) (xs ys zs : List (List ℕ)) → list_any test (xs ++ (ys ++ zs)) ≡ false → list_any test (xs ++ zs) ≡ false

@@ -13,20 +13,22 @@ use Rattle.hk_spec.specs.Scopes.{is_within_limit}
 use Rattle.hk_spec.specs.Specifications.{is_step}
 use Rattle.hk_spec.specs.declared.parts.StepExpr.{StepExpr}
 use Rattle.hk_spec.specs.declared.parts.StepExpr.TheVariants as step
-use Rattle.hk_parse.specs.BlockLines.{NamesStep, SmallStep, SmallInit, scope_of}
+use Rattle.hk_parse.specs.BlockLines.{NamesStep, SmallStep, SmallInit}
+use Rattle.hk_terms.specs.Names.{scope_of}
 use Rattle.hk_parse.specs.LineTexts.{InitText, Single, Pair, Values, IsInitText, StepText, ToNumber, ToPair, ToSet, IsStepText, HasForm}
-use Rattle.hk_parse.specs.Names.{Names, WritesUpTo, num_depth, set_depth}
-use Rattle.hk_parse.specs.NumTexts as num
-use Rattle.hk_parse.specs.NumTexts.{IsSigned}
-use Rattle.hk_parse.specs.SetTexts.{AreRisingNumbers}
-use Rattle.hk_parse.specs.Trees.{is_negative, digits_of, member_texts, init_text, step_text}
-use Rattle.hk_parse.proofs.MakingNums.{num_fit}
-use Rattle.hk_parse.proofs.MakingSets.{set_fit}
-use Rattle.hk_parse.proofs.TreeTextsNums.{IsNumTree, num_tree}
-use Rattle.hk_parse.proofs.TreeTextsSets.{IsSetTree, set_tree}
-use Rattle.hk_parse.proofs.TreesOfDecisions.{Stable, stable_both, stable_all, stable_up_to, stable_below, stable_small_num, stable_small_set, stable_num, stable_set}
-use Rattle.hk_parse.proofs.TreesOfLeaves.{literal_there, values_there}
-use Rattle.hk_parse.proofs.TreesOfTexts.{num_there, set_there}
+use Rattle.hk_terms.specs.Names.{Names, WritesUpTo, num_depth, set_depth}
+use Rattle.hk_terms.specs.NumTexts as num
+use Rattle.hk_terms.specs.NumTexts.{IsSigned}
+use Rattle.hk_terms.specs.SetTexts.{AreRisingNumbers}
+use Rattle.hk_terms.specs.Trees.{is_negative, digits_of, member_texts}
+use Rattle.hk_parse.specs.LineTrees.{init_text, step_text}
+use Rattle.hk_exprs.proofs.MakingNums.{num_fit}
+use Rattle.hk_exprs.proofs.MakingSets.{set_fit}
+use Rattle.hk_terms.proofs.TreeTextsNums.{IsNumTree, num_tree}
+use Rattle.hk_terms.proofs.TreeTextsSets.{IsSetTree, set_tree}
+use Rattle.hk_terms.proofs.TreesOfDecisions.{Stable, stable_both, stable_all, stable_up_to, stable_below, stable_small_num, stable_small_set, stable_num, stable_set}
+use Rattle.hk_exprs.proofs.TreesOfLeaves.{literal_there, values_there}
+use Rattle.hk_exprs.proofs.TreesOfTexts.{num_there, set_there}
 
 -- no names
 abbrev nothing : Names

@@ -6,10 +6,10 @@ use Rattle.hk_spec.specs.Specifications.{Specification}
 use Rattle.hk_parse.specs.BlockFaults.{BeginsWith, GoesOn, Ends}
 use Rattle.hk_parse.specs.BlockLines.{Part}
 use Rattle.hk_parse.specs.Blocks.{IsWhole}
-use Rattle.hk_parse.specs.Headers.{param_text}
+use Rattle.hk_parse.specs.inside.Headers.{param_text}
 use Rattle.hk_parse.specs.LineTexts.{Begin, End, line_texts}
-use Rattle.hk_parse.specs.Pieces.{piece, tokens_of}
-use Rattle.hk_parse.specs.Printed.{params_pieces, spec_lines}
+use Rattle.hk_print.specs.Pieces.{piece, tokens_of}
+use Rattle.hk_print.specs.Printed.{params_pieces, spec_lines}
 use Rattle.hk_parse.specs.SpecTexts.{Before, Within, Whole}
 use Rattle.hk_parse.proofs.AddedLines.{line_added}
 use Rattle.hk_parse.proofs.GoodTexts.{text_first, text_later, text_end, AreGoodTexts, no_text, then_text}

@@ -4,8 +4,8 @@ use Rattle.hk_kinds.specs.declared.kinds.Kind.{Kind}
 use Rattle.hk_kinds.specs.declared.properties.Prop.{Prop}
 use Rattle.hk_kinds.specs.Shapes.{IsOfKind}
 use Rattle.hk_spec.specs.Names.{reserved_words, are_distinct}
-use Rattle.hk_spec.specs.Scopes.{Scope, is_good_cond}
-use Rattle.hk_spec.specs.Specifications.{Specification, kinds_of_properties, is_step}
+use Rattle.hk_spec.specs.Scopes.{is_good_cond}
+use Rattle.hk_spec.specs.Specifications.{Specification, is_step}
 use Rattle.hk_spec.specs.declared.expressions.Cond.{Cond}
 use Rattle.hk_spec.specs.declared.expressions.Side.{Side}
 use Rattle.hk_spec.specs.declared.expressions.Side.TheVariants.{Down, Up}
@@ -13,8 +13,9 @@ use Rattle.hk_spec.specs.declared.parts.Param.{Param}
 use Rattle.hk_spec.specs.declared.parts.PropDecl.{PropDecl}
 use Rattle.hk_spec.specs.declared.parts.StepExpr.{StepExpr}
 use Rattle.hk_parse.specs.LineTexts.{ParamText, InitText, Single, Pair, Values, StepText, ToNumber, ToPair, ToSet, LineText, Begin, Property, Test, Step, End, HasForm}
-use Rattle.hk_parse.specs.Names.{Names, NamesSet, NamesNum, NamesCond, SmallSet, SmallNum, SmallCond, WritesUpTo, set_depth, num_depth, cond_depth}
-use Rattle.hk_parse.specs.Trees.{init_text, step_text, cond_text}
+use Rattle.hk_terms.specs.Names.{Names, scope_of, NamesSet, NamesNum, NamesCond, SmallSet, SmallNum, SmallCond, WritesUpTo, set_depth, num_depth, cond_depth}
+use Rattle.hk_parse.specs.LineTrees.{init_text, step_text}
+use Rattle.hk_terms.specs.Trees.{cond_text}
 
 -- what the lines of a specification say so far
 pub record Part : Type 0 where
@@ -107,10 +108,6 @@ LineLimitFault part (Property side name kind init) = (32 < length name) ⊎ ((32
 LineLimitFault part (Test test) = SmallCond test × (cond_depth test ≤ 32) → ⊥
 LineLimitFault part (Step name step) = SmallStep step → ⊥
 LineLimitFault part End = ⊥
-
--- the scope of the test, and of the step that is due
-abbrev pub scope_of : Names → Scope
-scope_of names = record { params = map (λ (p : Param). p.kind) names.params; down = kinds_of_properties names.down; up = kinds_of_properties names.up; best = false }
 
 -- a property is added to its side
 abbrev pub with_property : Part → Side → PropDecl → Part

@@ -11,7 +11,8 @@ use Rattle.hk_spec.specs.declared.expressions.Side.TheVariants.{Down, Up}
 use Rattle.hk_spec.specs.declared.parts.PropDecl.{PropDecl}
 use Rattle.hk_spec.specs.declared.parts.StepExpr.{StepExpr}
 use Rattle.hk_text.specs.Lexemes.{IsWord}
-use Rattle.hk_parse.specs.BlockLines.{Part, IsTaken, due, part_names, scope_of, side_of, step_names, test_names}
+use Rattle.hk_parse.specs.BlockLines.{Part, IsTaken, due, part_names, side_of, step_names, test_names}
+use Rattle.hk_terms.specs.Names.{scope_of}
 
 -- the steps are good ones of the first properties, one each
 pub record AreFirstSteps (scope : Scope) (properties : List PropDecl) (steps : List StepExpr) : Type 0 where

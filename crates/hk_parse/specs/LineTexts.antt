@@ -5,11 +5,11 @@ use Rattle.hk_kinds.specs.declared.kinds.Kind.TheVariants.{Min, Max, Interval, S
 use Rattle.hk_spec.specs.declared.expressions.Side.{Side}
 use Rattle.hk_spec.specs.declared.expressions.Side.TheVariants.{Down, Up}
 use Rattle.hk_spec.specs.declared.parts.ParamKind.{ParamKind}
-use Rattle.hk_spec.specs.declared.parts.ParamKind.TheVariants as param
 use Rattle.hk_text.specs.Lexemes.{IsWord}
-use Rattle.hk_parse.specs.SetTexts.{SetText, set_texts, listed, in_parentheses, AreRisingNumbers, IsSetText}
-use Rattle.hk_parse.specs.NumTexts.{NumText, num_texts, number_texts, IsSigned, IsNumText}
-use Rattle.hk_parse.specs.CondTexts.{CondText, cond_texts, IsCondText}
+use Rattle.hk_print.specs.Printed.{param_word, kind_word}
+use Rattle.hk_terms.specs.SetTexts.{SetText, set_texts, listed, in_parentheses, AreRisingNumbers, IsSetText}
+use Rattle.hk_terms.specs.NumTexts.{NumText, num_texts, number_texts, IsSigned, IsNumText}
+use Rattle.hk_terms.specs.CondTexts.{CondText, cond_texts, IsCondText}
 
 -- a parameter: what it stands for, and its name
 pub record ParamText : Type 0 where
@@ -36,22 +36,10 @@ pub data LineText : Type 0 where
   Step : (name : List ℕ) (step : StepText) → LineText
   End : LineText
 
--- the words of kinds and sides
-abbrev pub param_word : ParamKind → List ℕ
-param_word param.Num = codes "num"
-param_word param.Set = codes "set"
-param_word param.List = codes "list"
-
+-- the word of a side
 abbrev pub side_word : Side → List ℕ
 side_word Down = codes "down"
 side_word Up = codes "up"
-
-abbrev pub kind_word : Kind → List ℕ
-kind_word Min = codes "Min"
-kind_word Max = codes "Max"
-kind_word Interval = codes "Interval"
-kind_word SomeBits = codes "SomeBits"
-kind_word AllBits = codes "AllBits"
 
 -- parameters, each but the last followed by a comma
 abbrev pub param_texts : List ParamText → List (List ℕ)

@@ -4,23 +4,24 @@ ghost use Rattle.std.specs.Prelude.{◌≡◌, ◌∷◌, All, IfOk, IfErr, IfSo
 ghost use Rattle.hk_kinds.specs.Shapes.{IsOfKind};
 ghost use Rattle.hk_text.specs.Lexemes.{IsWord};
 ghost use Rattle.hk_text.specs.Texts.{texts_of};
-ghost use Rattle.hk_parse.specs.BlockFaults.{GoesOn, IsAdded, IsDeclared, IsLineFault, IsPropertyFault, IsTestFault};
+ghost use Rattle.hk_parse.specs.BlockFaults.{GoesOn, IsAdded, IsLineFault};
+ghost use Rattle.hk_parse.specs.inside.LineParts.{IsDeclared, IsPropertyFault, IsTestFault};
 ghost use Rattle.hk_parse.specs.Blocks.{AwaitsProperty};
 ghost use Rattle.hk_parse.specs.LineTexts.{side_word};
-ghost use Rattle.hk_parse.specs.Reads.{IsFew, IsTokenIn, ReadsCond};
+ghost use Rattle.hk_terms.specs.Outcomes.{IsFew};
+ghost use Rattle.hk_text.specs.Tokens.{IsTokenIn};
+ghost use Rattle.hk_exprs.specs.Reads.{ReadsCond};
 
 use crate::blocks::Block;
-use crate::expressions::read_cond;
 use crate::faults::BlockFault;
-use crate::flaws::Flaw;
 use crate::headers::{bytes_of, is_only};
 use crate::limits::NAME_BYTES;
-use crate::names::Names;
 use crate::properties::{PropertyWords, property_of};
 use crate::steps::step_of;
-use crate::tokens::after_text;
+use hk_exprs::read_cond;
 use hk_spec::{Cond, PropDecl, Side};
-use hk_text::Token;
+use hk_terms::{Flaw, Names};
+use hk_text::{Token, after_text};
 use std::alloc::Global;
 
 impl Block {

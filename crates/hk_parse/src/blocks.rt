@@ -5,22 +5,23 @@ ghost use Rattle.std.specs.List.{list_any};
 ghost use Rattle.std.specs.Str.{bytes_eq};
 ghost use Rattle.hk_text.specs.Lexemes.{IsWord};
 ghost use Rattle.hk_text.specs.Texts.{texts_of};
-ghost use Rattle.hk_parse.specs.BlockFaults.{BeginsWith, IsBeginFault, IsHeaderFault};
+ghost use Rattle.hk_parse.specs.BlockFaults.{BeginsWith, IsBeginFault};
+ghost use Rattle.hk_parse.specs.inside.LineParts.{IsHeaderFault};
 ghost use Rattle.hk_parse.specs.BlockLines.{Begins, IsTaken, MayStand, due, part_names, side_of, step_names, test_names, with_property, with_step};
 ghost use Rattle.hk_parse.specs.Blocks.{AwaitsProperty, FitsProperty, FitsStep, FitsTest, IsWhole};
-ghost use Rattle.hk_parse.specs.declared.limits.TheConstants.{PROPERTIES};
-ghost use Rattle.hk_parse.specs.Headers.{IsHeader, plain_param};
+ghost use Rattle.hk_parse.specs.inside.Headers.{IsHeader, plain_param};
 ghost use Rattle.hk_parse.specs.LineTexts.{ParamText, End};
-ghost use Rattle.hk_parse.specs.Reads.{IsFew, IsTokenIn};
+ghost use Rattle.hk_terms.specs.Outcomes.{IsFew};
+ghost use Rattle.hk_text.specs.Tokens.{IsTokenIn};
 
 use crate::faults::BlockFault;
 use crate::headers::{
     ParamWords, bytes_of, declared_params, has_taken_name, header_of, is_reserved, passes_limit,
 };
 use crate::limits::PROPERTIES;
-use crate::names::Names;
 use hk_base::{Bytes, List};
 use hk_spec::{Cond, Param, PropDecl, Side, Spec, StepExpr};
+use hk_terms::Names;
 use hk_text::Token;
 use std::alloc::{AllocError, Global};
 use std::marker::Model;
@@ -140,7 +141,7 @@ impl Block {
 
     /// Whether a side has as many properties as it may have.
     pub fn is_full(&self, side: Side) -> bool
-        ensures { IsTrue result ↔ PROPERTIES ≤ length (side_of self.now side) }
+        ensures { IsTrue result ↔ 32 ≤ length (side_of self.now side) }
     {
         match side {
             Side::Down => self.down.as_slice().len() >= PROPERTIES,

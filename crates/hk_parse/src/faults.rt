@@ -1,3 +1,5 @@
+//! Why a line of a specification, or a whole text, is bad.
+
 use thiserror::Error;
 
 /// Why a line of a specification is bad.

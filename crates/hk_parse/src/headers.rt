@@ -7,15 +7,15 @@ ghost use Rattle.hk_spec.specs.declared.parts.ParamKind.{ParamKind};
 ghost use Rattle.hk_spec.specs.Names.{are_distinct, reserved_words};
 ghost use Rattle.hk_text.specs.Texts.{texts_of};
 ghost use Rattle.hk_parse.specs.BlockLines.{BeginLimitFault, BeginNameFault, param_names};
-ghost use Rattle.hk_parse.specs.Headers.{AreParams, ParamThen, param_text, plain_param};
-ghost use Rattle.hk_parse.specs.LineTexts.{Begin, ParamText, SaysLine, param_word};
-ghost use Rattle.hk_parse.specs.Reads.{IsTokenIn};
+ghost use Rattle.hk_parse.specs.inside.Headers.{AreParams, ParamThen, param_text, plain_param};
+ghost use Rattle.hk_parse.specs.LineTexts.{Begin, ParamText, SaysLine};
+ghost use Rattle.hk_print.specs.Printed.{param_word};
+ghost use Rattle.hk_text.specs.Tokens.{IsTokenIn};
 
 use crate::limits::{NAME_BYTES, PARAMS};
-use crate::tokens::{after_text, word_of};
 use hk_base::{Bytes, List};
 use hk_spec::{Param, ParamKind};
-use hk_text::Token;
+use hk_text::{Token, after_text, word_of};
 use indexmap::IndexSet;
 use std::alloc::{AllocError, Global};
 

@@ -1,8 +1,10 @@
-ghost use Rattle.std.specs.Prelude.{◌≡◌, ◌≢◌, List, ℕ, false, map, IsTrue};
+//! Laws on the texts of specifications.
+
+ghost use Rattle.std.specs.Prelude.{◌≡◌, ◌≢◌, ◌⊎◌, List, ℕ, false, map, IsTrue};
 ghost use Rattle.hk_spec.specs.Scopes.{is_good_cond};
 ghost use Rattle.hk_spec.specs.Specifications.{Specification, IsSpecification, test_scope};
-ghost use Rattle.hk_parse.specs.Printed.{spec_text, spec_lines};
-ghost use Rattle.hk_parse.specs.Pieces.{tokens_of};
+ghost use Rattle.hk_print.specs.Printed.{spec_text, spec_lines};
+ghost use Rattle.hk_print.specs.Pieces.{tokens_of};
 ghost use Rattle.hk_parse.specs.SpecTexts.{AreTextsOf, IsSpecFault, WritesSpec};
 ghost use Rattle.hk_parse.specs.declared.faults.SpecFault.{SpecFault};
 ghost use Rattle.hk_text.specs.Lines.{lines};
@@ -22,10 +24,13 @@ pub fn printed_is_read()
         → WritesSpec (spec_text s) s }
 {}
 
-/// The law that makes the answer of `read_spec` the only one: a text writes one specification at most,
-/// has one fault at most besides want of memory, and not both. So a printed specification whose test
-/// doesn't use the bound on the cost is read as this very specification, unless memory is wanting.
+/// The law that makes the answer of `read_spec` the only one, want of memory left aside: each text
+/// writes a specification or has a fault, and not both, and there is one specification and one fault
+/// at most. So a printed specification whose test doesn't use the bound on the cost is read as this
+/// very specification, unless memory is wanting.
 pub fn one_specification()
+    ensures each { (bytes : List ℕ) → ((s : Specification) × WritesSpec bytes s)
+        ⊎ ((fault : SpecFault) × (fault ≢ SpecFault.Memory) × IsSpecFault bytes fault) }
     ensures written { (bytes : List ℕ) (s t : Specification) → WritesSpec bytes s → WritesSpec bytes t → s ≡ t }
     ensures apart { (bytes : List ℕ) (s : Specification) (fault : SpecFault) → WritesSpec bytes s → IsSpecFault bytes fault → fault ≡ SpecFault.Memory }
     ensures fault { (bytes : List ℕ) (f g : SpecFault) → f ≢ SpecFault.Memory → g ≢ SpecFault.Memory → IsSpecFault bytes f → IsSpecFault bytes g → f ≡ g }

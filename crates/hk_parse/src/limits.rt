@@ -1,3 +1,5 @@
+//! How much a specification may hold.
+
 /// The most bytes of a name.
 pub const NAME_BYTES: usize = 32;
 

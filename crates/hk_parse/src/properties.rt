@@ -1,19 +1,18 @@
 //! The lines of properties.
 
-ghost use Rattle.std.specs.Prelude.{◌≡◌, ◌∷◌, ◌++◌, All, ℕ, Bool, List as Seq, IfOk, IfSome, IsNone, codes};
+ghost use Rattle.std.specs.Prelude.{◌≡◌, ◌∷◌, ◌++◌, All, ℕ, Bool, List as Seq, IfSome, IsNone, codes};
 ghost use Rattle.std.specs.Str.{bytes_eq};
 ghost use Rattle.hk_kinds.specs.declared.kinds.Kind.{Kind};
 ghost use Rattle.hk_text.specs.Texts.{texts_of};
-ghost use Rattle.hk_parse.specs.Headers.{ArePropertyTexts, IsSignedOf, ReadsInit, ReadsProperty, SignedThen};
-ghost use Rattle.hk_parse.specs.LineTexts.{InitText, IsInitText, init_texts, kind_word};
-ghost use Rattle.hk_parse.specs.NumTexts.{IsSigned, number_texts};
-ghost use Rattle.hk_parse.specs.Reads.{IsTokenIn};
+ghost use Rattle.hk_parse.specs.inside.Headers.{ArePropertyTexts, IsSignedOf, ReadsInit, ReadsProperty, SignedThen};
+ghost use Rattle.hk_parse.specs.LineTexts.{InitText, IsInitText, init_texts};
+ghost use Rattle.hk_print.specs.Printed.{kind_word};
+ghost use Rattle.hk_terms.specs.NumTexts.{IsSigned, number_texts};
+ghost use Rattle.hk_text.specs.Tokens.{IsTokenIn};
 
-use crate::braces::values_of;
-use crate::literals::{GREATEST, value_within};
-use crate::tokens::{after_text, number_of, word_of};
 use hk_kinds::{Kind, Prop};
-use hk_text::Token;
+use hk_terms::{GREATEST, value_within, values_of};
+use hk_text::{Token, after_text, number_of, word_of};
 
 /// A property as it is written, with its initial value: None where a number of that passes its
 /// limit.

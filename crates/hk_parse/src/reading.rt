@@ -3,9 +3,9 @@
 ghost use Rattle.std.specs.Prelude.{◌≡◌, ◌≤◌, ◌≢◌, [], All, IfOk, IfErr, length};
 ghost use Rattle.hk_text.specs.Texts.{texts_of};
 ghost use Rattle.hk_text.specs.Tokens.{AreTokensOf};
-ghost use Rattle.hk_parse.specs.Reads.{IsTokenIn};
+ghost use Rattle.hk_text.specs.Tokens.{IsTokenIn};
 ghost use Rattle.hk_parse.specs.SpecTexts.{IsFaultAt, Before, IsGoodLine, IsSpecFault, Within, WritesSpec};
-ghost use Rattle.hk_parse.specs.Stages.{StopsAt, fault_of, stage_of, text_fault};
+ghost use Rattle.hk_parse.specs.inside.Stages.{StopsAt, fault_of, stage_of, text_fault};
 
 use crate::blocks::Block;
 use crate::faults::{BlockFault, SpecFault};

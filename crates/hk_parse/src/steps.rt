@@ -1,20 +1,19 @@
 //! The steps of properties.
 
-ghost use Rattle.std.specs.Prelude.{All, ℕ, List as Seq, IfOk, IfErr, IfSome, IsNone};
+ghost use Rattle.std.specs.Prelude.{All, ℕ, IfOk, IfErr, IfSome, IsNone};
 ghost use Rattle.hk_kinds.specs.declared.kinds.Kind.{Kind};
 ghost use Rattle.hk_text.specs.Texts.{texts_of};
 ghost use Rattle.hk_parse.specs.LineTexts.{StepText};
-ghost use Rattle.hk_parse.specs.Reads.{IsFew, IsTokenIn};
-ghost use Rattle.hk_parse.specs.StepReads.{AreStepTexts, IsNamed, IsStepFault, ReadsStep, ReadsStepOf};
+ghost use Rattle.hk_terms.specs.Outcomes.{IsFew};
+ghost use Rattle.hk_text.specs.Tokens.{IsTokenIn};
+ghost use Rattle.hk_parse.specs.inside.StepReads.{AreStepTexts, IsNamed, IsStepFault, ReadsStep, ReadsStepOf};
 
-use crate::expressions::{read_num, read_pair, read_set};
 use crate::faults::BlockFault;
-use crate::flaws::Flaw;
-use crate::names::Names;
-use crate::tokens::word_of;
+use hk_exprs::{read_num, read_pair, read_set};
 use hk_kinds::Kind;
 use hk_spec::{PropDecl, StepExpr};
-use hk_text::Token;
+use hk_terms::{Flaw, Names};
+use hk_text::{Token, word_of};
 use std::alloc::{AllocError, Global};
 
 /// The step of the property that the tokens say, its name first.

@@ -1,5 +1,5 @@
 use Rattle.std.proofs.Common.{◌≡◌, ◌++◌, map, drop}
-use Rattle.hk_parse.specs.Headers.{param_text, plain_param}
+use Rattle.hk_parse.specs.inside.Headers.{param_text, plain_param}
 use Rattle.hk_parse.proofs.headers.declared_params.Given as goal
 
 abbrev pub invariant-loop-param : goal.invariant-loop-param

@@ -4,9 +4,9 @@ use Rattle.std.specs.Str.{bytes_eq}
 use Rattle.std.proofs.lemmas.Bool.{both_ways, not-true, not_from_false}
 use Rattle.hk_spec.specs.Names.{reserved_words}
 use Rattle.hk_parse.specs.BlockLines.{param_names}
-use Rattle.hk_parse.specs.Headers.{plain_param}
+use Rattle.hk_parse.specs.inside.Headers.{plain_param}
 use Rattle.hk_parse.specs.declared.headers.ParamWords.{ParamWords}
-use Rattle.hk_parse.proofs.NameLists.{reserved_found, found_reserved, any_of_map}
+use Rattle.hk_terms.proofs.NameLists.{reserved_found, found_reserved, any_of_map}
 use Rattle.hk_parse.proofs.headers.has_taken_name.Goals as goal
 
 -- the test over the parameters is that over their names

@@ -2,10 +2,10 @@ use Rattle.std.proofs.Common.{◌≡◌, ℕ, ◌<◌, List, [], map, length, ge
 use Rattle.std.proofs.lemmas.Bool.{not-false, not-true}
 use Rattle.std.proofs.lemmas.List.{get_or-map, length-map}
 use Rattle.hk_parse.specs.BlockLines.{param_names}
-use Rattle.hk_parse.specs.Headers.{plain_param}
+use Rattle.hk_parse.specs.inside.Headers.{plain_param}
 use Rattle.hk_parse.specs.declared.headers.ParamWords.{ParamWords}
 use Rattle.hk_spec.specs.declared.parts.ParamKind.TheVariants.{Num}
-use Rattle.hk_parse.proofs.NameLists.{seen_twice, seen_more}
+use Rattle.hk_terms.proofs.NameLists.{seen_twice, seen_more}
 use Rattle.hk_parse.proofs.headers.have_distinct_names.Goals as goal
 
 abbrev none : ParamWords

@@ -1,7 +1,7 @@
 use Rattle.std.proofs.Common.{[], ◌∷◌, ◌∙◌, map, refl, sym, ap, subst, true≢false, rules}
 use Rattle.std.proofs.lemmas.List.{map-append}
 use Rattle.hk_text.specs.Texts.{texts_of}
-use Rattle.hk_parse.specs.Headers.{plain_param}
+use Rattle.hk_parse.specs.inside.Headers.{plain_param}
 use Rattle.hk_parse.proofs.Parameters.{ParamsSoFar, params_start, params_none, params_more, params_last}
 use Rattle.hk_parse.proofs.headers.params_of.Goals as goal
 

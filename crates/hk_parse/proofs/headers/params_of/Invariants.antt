@@ -1,7 +1,7 @@
 use Rattle.std.proofs.Common.{All, length, map}
 use Rattle.hk_text.specs.Texts.{texts_of}
-use Rattle.hk_parse.specs.Headers.{plain_param}
-use Rattle.hk_parse.specs.Reads.{IsTokenIn}
+use Rattle.hk_parse.specs.inside.Headers.{plain_param}
+use Rattle.hk_text.specs.Tokens.{IsTokenIn}
 use Rattle.hk_parse.proofs.Parameters.{ParamsSoFar}
 use Rattle.hk_parse.proofs.headers.params_of.Given as goal
 

@@ -2,11 +2,11 @@ use Rattle.std.proofs.Common.{◌≡◌, ◌<◌, List, length, map, nat_lt, sym
 use Rattle.std.specs.List.{list_any}
 use Rattle.std.proofs.lemmas.List.{length-map}
 use Rattle.hk_parse.specs.BlockLines.{param_names}
-use Rattle.hk_parse.specs.Headers.{plain_param}
+use Rattle.hk_parse.specs.inside.Headers.{plain_param}
 use Rattle.hk_parse.specs.LineTexts.{ParamText}
 use Rattle.hk_parse.specs.declared.headers.ParamWords.{ParamWords}
-use Rattle.hk_parse.proofs.FreeNames.{any_from_map, any_to_map, long_found, found_long}
-use Rattle.hk_parse.proofs.NameLists.{any_of_map}
+use Rattle.hk_terms.proofs.FreeNames.{any_from_map, any_to_map, long_found, found_long}
+use Rattle.hk_terms.proofs.NameLists.{any_of_map}
 use Rattle.hk_parse.proofs.headers.passes_limit.Goals as goal
 
 -- the test over the parameters is that over their names

@@ -1,6 +1,7 @@
 use Rattle.std.proofs.Common.{refl, sym}
 use Rattle.hk_parse.proofs.InitialTexts.{no_high, no_longer_interval, interval_read, interval_passes}
-use Rattle.hk_parse.proofs.SignedTexts.{texts_over, texts_go_on, made_is}
+use Rattle.hk_text.proofs.TokenTexts.{texts_over, texts_go_on}
+use Rattle.hk_parse.proofs.SignedTexts.{made_is}
 use Rattle.hk_parse.proofs.properties.interval_init.Goals as goal
 
 pub returns-in_err-high-clause-none : goal.returns-in_err-high-clause-none

@@ -1,6 +1,7 @@
 use Rattle.std.proofs.Common.{refl, sym}
 use Rattle.hk_parse.proofs.InitialTexts.{no_number_init, number_read, number_passes}
-use Rattle.hk_parse.proofs.SignedTexts.{texts_over, made_is}
+use Rattle.hk_text.proofs.TokenTexts.{texts_over}
+use Rattle.hk_parse.proofs.SignedTexts.{made_is}
 use Rattle.hk_parse.proofs.properties.number_init.Goals as goal
 
 pub returns-in_err-number-clause-none : goal.returns-in_err-number-clause-none

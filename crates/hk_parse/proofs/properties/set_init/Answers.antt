@@ -1,6 +1,6 @@
 use Rattle.std.proofs.Common.{refl, sym}
 use Rattle.hk_parse.proofs.InitialSets.{no_brace, no_values, no_longer_values, set_read, set_passes, values_made}
-use Rattle.hk_parse.proofs.SignedTexts.{texts_over, texts_go_on}
+use Rattle.hk_text.proofs.TokenTexts.{texts_over, texts_go_on}
 use Rattle.hk_parse.proofs.properties.set_init.Goals as goal
 
 pub returns-in_err-after-clause-none : goal.returns-in_err-after-clause-none

@@ -1,6 +1,6 @@
 use Rattle.std.proofs.Common.{◌∙◌, sym}
 use Rattle.hk_parse.proofs.SignedTexts.{minus_then}
-use Rattle.hk_parse.proofs.TokenTexts.{nonzero_text}
+use Rattle.hk_text.proofs.TokenTexts.{nonzero_text}
 use Rattle.hk_parse.proofs.properties.signed_of.Goals as goal
 
 pub signed_value-requires-2 : goal.signed_value-requires-2

@@ -1,8 +1,8 @@
 use Rattle.std.proofs.Common.{Some, pos, to_z, of_z, w64, ◌-ℤ◌, sym, subst, arith}
 use Rattle.std.proofs.lemmas.Int.{ints}
-use Rattle.hk_parse.specs.Headers.{IsSignedOf}
-use Rattle.hk_parse.specs.NumTexts.{IsSigned}
-use Rattle.hk_parse.proofs.LiteralTexts.{negated_in_word}
+use Rattle.hk_parse.specs.inside.Headers.{IsSignedOf}
+use Rattle.hk_terms.specs.NumTexts.{IsSigned}
+use Rattle.hk_terms.proofs.LiteralTexts.{negated_in_word}
 use Rattle.hk_parse.proofs.SignedTexts.{plain_value, minus_value}
 use Rattle.hk_parse.proofs.properties.signed_value.Goals as goal
 

@@ -1,5 +1,5 @@
 use Rattle.std.proofs.Common.{sym, subst}
-use Rattle.hk_parse.specs.Stages.{StopsAt, stage_of}
+use Rattle.hk_parse.specs.inside.Stages.{StopsAt, stage_of}
 use Rattle.hk_parse.proofs.ReadSpecs.{byte_stops}
 use Rattle.hk_parse.proofs.reading.read_line.Goals as goal
 

@@ -1,6 +1,6 @@
 use Rattle.std.proofs.Common.{[], refl, sym, subst, arith}
 use Rattle.hk_parse.specs.SpecTexts.{IsSpecFault, no_line}
-use Rattle.hk_parse.specs.Stages.{stage_of}
+use Rattle.hk_parse.specs.inside.Stages.{stage_of}
 use Rattle.hk_parse.proofs.ReadSpecs.{Reached, reached_more, stopped_at, whole_read, wants_end, before_no_end, within_no_end}
 use Rattle.hk_parse.proofs.reading.read_spec.Goals as goal
 

@@ -1,5 +1,5 @@
 use Rattle.std.proofs.Common.{length}
-use Rattle.hk_parse.specs.Stages.{stage_of}
+use Rattle.hk_parse.specs.inside.Stages.{stage_of}
 use Rattle.hk_parse.proofs.ReadSpecs.{Reached}
 use Rattle.hk_parse.proofs.reading.read_spec.Given as goal
 

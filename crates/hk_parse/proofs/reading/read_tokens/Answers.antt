@@ -1,6 +1,6 @@
 use Rattle.std.proofs.Common.{sym, subst, IfErr}
 use Rattle.hk_parse.specs.SpecTexts.{Before, Within}
-use Rattle.hk_parse.specs.Stages.{StopsAt, stage_of}
+use Rattle.hk_parse.specs.inside.Stages.{StopsAt, stage_of}
 use Rattle.hk_parse.specs.declared.faults.BlockFault.TheVariants.{Syntax}
 use Rattle.hk_parse.proofs.ReadSpecs.{line_empty, made_stops, whole_stops}
 use Rattle.hk_parse.proofs.reading.read_tokens.Goals as goal

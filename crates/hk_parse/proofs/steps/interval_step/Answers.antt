@@ -1,5 +1,5 @@
 use Rattle.hk_text.specs.Texts.{texts_of}
-use Rattle.hk_parse.specs.Reads.{ReadsPair}
+use Rattle.hk_exprs.specs.Reads.{ReadsPair}
 use Rattle.hk_parse.proofs.StepTexts.{some_is, interval_step_read, interval_step_flaw}
 use Rattle.hk_parse.proofs.steps.interval_step.Goals as goal
 

@@ -1,5 +1,5 @@
 use Rattle.hk_text.specs.Texts.{texts_of}
-use Rattle.hk_parse.specs.Reads.{ReadsNum}
+use Rattle.hk_exprs.specs.Reads.{ReadsNum}
 use Rattle.hk_parse.proofs.StepTexts.{some_is, number_step_read, number_step_flaw}
 use Rattle.hk_parse.proofs.steps.number_step.Goals as goal
 

@@ -1,5 +1,5 @@
 use Rattle.hk_text.specs.Texts.{texts_of}
-use Rattle.hk_parse.specs.Reads.{ReadsSet}
+use Rattle.hk_exprs.specs.Reads.{ReadsSet}
 use Rattle.hk_parse.proofs.StepTexts.{some_is, set_step_read, set_step_flaw}
 use Rattle.hk_parse.proofs.steps.set_step.Goals as goal
 

@@ -1,6 +1,6 @@
 use Rattle.std.proofs.Common.{subst, sym, ◌∙◌, true≢false}
 use Rattle.hk_text.specs.Texts.{texts_of}
-use Rattle.hk_parse.specs.StepReads.{IsStepFault, ReadsStepOf}
+use Rattle.hk_parse.specs.inside.StepReads.{IsStepFault, ReadsStepOf}
 use Rattle.hk_parse.proofs.StepsAdded.{some_there, step_fits, step_goes_on, step_fault}
 use Rattle.hk_parse.proofs.blocks.Block.add_step.Goals as goal
 

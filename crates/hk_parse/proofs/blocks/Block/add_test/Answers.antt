@@ -1,7 +1,7 @@
 use Rattle.std.proofs.Common.{Ok, subst}
 use Rattle.hk_text.specs.Texts.{texts_of}
-use Rattle.hk_parse.specs.BlockFaults.{IsTestFault}
-use Rattle.hk_parse.specs.Reads.{ReadsCond}
+use Rattle.hk_parse.specs.inside.LineParts.{IsTestFault}
+use Rattle.hk_exprs.specs.Reads.{ReadsCond}
 use Rattle.hk_parse.proofs.TestsAdded.{test_fits, test_goes_on, test_fault}
 use Rattle.hk_parse.proofs.blocks.Block.add_test.Goals as goal
 

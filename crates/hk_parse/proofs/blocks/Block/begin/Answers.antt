@@ -1,6 +1,6 @@
 use Rattle.std.proofs.Common.{IfErr, map, subst}
-use Rattle.hk_parse.specs.BlockFaults.{IsHeaderFault}
-use Rattle.hk_parse.specs.Headers.{plain_param}
+use Rattle.hk_parse.specs.inside.LineParts.{IsHeaderFault}
+use Rattle.hk_parse.specs.inside.Headers.{plain_param}
 use Rattle.hk_parse.proofs.Beginnings.{texts_err}
 use Rattle.hk_parse.proofs.blocks.Block.begin.Goals as goal
 

@@ -2,7 +2,7 @@ use Rattle.std.proofs.Common.{refl, sym, ◌∙◌, inl, inr}
 use Rattle.hk_spec.specs.Names.{reserved_words}
 use Rattle.std.proofs.lemmas.Bool.{both_ways}
 use Rattle.hk_parse.specs.BlockLines.{part_names}
-use Rattle.hk_parse.proofs.NameLists.{listed_found, found_listed}
+use Rattle.hk_terms.proofs.NameLists.{listed_found, found_listed}
 use Rattle.hk_parse.proofs.blocks.Block.is_taken.Goals as goal
 
 pub returns-then-is_reserved : goal.returns-then-is_reserved

@@ -1,0 +1,11 @@
+use Rattle.std.proofs.Common.{subst}
+use Rattle.hk_exprs.proofs.FramesKept.{instead, mapped, mapped_none}
+use Rattle.hk_exprs.specs.inside.Machines as machine
+use Rattle.hk_exprs.specs.inside.Standing.{BothOrNone, IsKept, kept_both}
+use Rattle.hk_exprs.proofs.placing.both_with_last.Goals as goal
+
+pub returns-in-Ok-Some : goal.returns-in-Ok-Some
+returns-in-Ok-Some c = λ x y k h more kept. mapped (machine.Both x) (subst (BothOrNone (IsKept c.args.names.now) (machine.applied y k)) c.in-Ok-Some.field-0-is (c.in-Ok-Some.ensures y k more kept)) (λ z last. kept_both h last)
+
+pub returns-in-Ok-None : goal.returns-in-Ok-None
+returns-in-Ok-None c = λ x y k h more kept. instead c.none_of.ensures (mapped_none (machine.Both x) (subst (BothOrNone (IsKept c.args.names.now) (machine.applied y k)) c.in-Ok-None.field-0-is (c.in-Ok-None.ensures y k more kept)))

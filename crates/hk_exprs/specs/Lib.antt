@@ -1,0 +1,10 @@
+pub mod Reads
+pub mod inside
+pub use Rattle.hk_terms.specs.Atoms
+pub use Rattle.hk_terms.specs.CondTexts
+pub use Rattle.hk_terms.specs.Names
+pub use Rattle.hk_terms.specs.NumTexts
+pub use Rattle.hk_terms.specs.Operands
+pub use Rattle.hk_terms.specs.Outcomes
+pub use Rattle.hk_terms.specs.SetTexts
+pub use Rattle.hk_terms.specs.Trees

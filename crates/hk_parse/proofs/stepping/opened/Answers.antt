@@ -1,6 +1,0 @@
-use Rattle.std.proofs.Common.{sym, subst}
-use Rattle.hk_parse.specs.Standing.{AreKept, kept_empty, one_frame}
-use Rattle.hk_parse.proofs.stepping.opened.Goals as goal
-
-pub returns : goal.returns
-returns c = λ names f frames kept more. (kept_empty, subst (AreKept names _) (sym (c.in_ok-push.ensures.ok)) (one_frame kept more))

@@ -1,0 +1,6 @@
+pub mod BestScope
+pub mod Lines
+pub mod PrintedExpressions
+pub mod PrintedLines
+pub mod PrintedTokens
+pub mod Spacing

@@ -1,0 +1,7 @@
+use Rattle.hk_terms.proofs.lookups.low_named.Goals as goal
+use Rattle.hk_terms.proofs.NamePlaces.{property_at, low_property}
+
+pub returns-clause-some : goal.returns-clause-some
+returns-clause-some c =
+    let found = c.in_ok-side.ensures in
+    low_property (property_at c.args.names.now c.in_ok-side.side c.in_ok-side.place found.within found.name found.form)

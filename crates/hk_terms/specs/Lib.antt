@@ -1,0 +1,9 @@
+pub mod Atoms
+pub mod CondTexts
+pub mod Names
+pub mod NumTexts
+pub mod Operands
+pub mod Outcomes
+pub mod SetTexts
+pub mod Trees
+pub mod inside
