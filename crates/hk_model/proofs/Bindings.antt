@@ -8,8 +8,9 @@ use Rattle.hk_spec.specs.declared.arguments.Arg.{Arg}
 use Rattle.hk_spec.specs.declared.arguments.Arg.TheVariants as argument
 use Rattle.hk_spec.specs.declared.parts.ParamKind.{ParamKind}
 use Rattle.hk_spec.specs.declared.parts.ParamKind.TheVariants as param
-use Rattle.hk_model.specs.declared.limits.TheConstants.{COEFFICIENT}
-use Rattle.hk_model.specs.Posts.{ArgText, Number, Set, Numbers, FitsKind, FitKinds, IsSmallArg, IsArgOf, AreArgsOf}
+use Rattle.hk_model.specs.Limits.{greatest_coefficient}
+use Rattle.hk_lines.specs.Posts.{ArgText, Number, Set, Numbers}
+use Rattle.hk_model.specs.Postings.{FitsKind, FitKinds, IsSmallArg, IsArgOf, AreArgsOf}
 use Rattle.hk_model.specs.Problems.{IsWithin}
 
 -- a small argument of a kind is one of that kind
@@ -29,7 +30,7 @@ bound_argument count param.List (Set set) arg fit small is = absurd fit
 bound_argument count param.List (Numbers numbers) (argument.Num n) fit small is = absurd is
 bound_argument count param.List (Numbers numbers) (argument.Set bits) fit small is = absurd is
 bound_argument count param.List (Numbers numbers) (argument.Nums ns) fit small is = is_list (ap length is ∙ small.1)
-    (subst (All IsCoefficient) (sym is) (All-weaker (IsWithin COEFFICIENT) IsCoefficient (λ n within. record { least = within.above; most = within.below }) numbers small.0))
+    (subst (All IsCoefficient) (sym is) (All-weaker (IsWithin greatest_coefficient) IsCoefficient (λ n within. record { least = within.above; most = within.below }) numbers small.0))
 
 -- small arguments of the kinds are ones of those kinds
 pub bound_arguments : (count : ℕ) (kinds : List ParamKind) (texts : List ArgText) (args : List Arg) → FitKinds kinds texts → All (IsSmallArg count) texts → AreArgsOf texts args → AreArguments count kinds args

@@ -7,14 +7,16 @@ use Rattle.hk_spec.specs.declared.parts.ParamKind.{ParamKind}
 use Rattle.hk_spec.specs.declared.parts.ParamKind.TheVariants as param
 use Rattle.hk_model.specs.declared.faults.LineFault.{LineFault}
 use Rattle.hk_model.specs.declared.faults.LineFault.TheVariants.{Bad, NoMemory}
-use Rattle.hk_model.specs.declared.limits.TheConstants.{VALUES, COEFFICIENT}
+use Rattle.hk_model.specs.Limits.{value_count, greatest_coefficient}
 use Rattle.hk_model.specs.declared.refusal.RefusalKind.{RefusalKind}
 use Rattle.hk_model.specs.declared.refusal.RefusalKind.TheVariants as kind
-use Rattle.hk_model.specs.Phrases.{Values}
-use Rattle.hk_model.specs.Posts.{ArgText, Number, Set, Numbers, Post, FitsKind, FitKinds, IsSmallArg, PostNameFault, no_spec, other_args, no_variable, PostLimitFault, many_posts, large_arg, PostScopeFault, AddsPost}
-use Rattle.hk_model.specs.PostShapes.{capped_arg, capped_post, IsFaultyPost, IsPostFault}
+use Rattle.hk_lines.specs.Phrases.{Values}
+use Rattle.hk_lines.specs.Posts.{ArgText, Number, Set, Numbers, Post}
+use Rattle.hk_model.specs.Postings.{FitsKind, FitKinds, IsSmallArg, PostNameFault, no_spec, other_args, no_variable, PostLimitFault, many_posts, large_arg, PostScopeFault, AddsPost}
+use Rattle.hk_lines.specs.PostShapes.{capped_arg, capped_post}
+use Rattle.hk_model.specs.inside.PostFaults.{IsFaultyPost, IsPostFault}
 use Rattle.hk_model.specs.Problems.{PlainProblem, IsWithin}
-use Rattle.hk_model.specs.Shapes.{capped, capped_signed, capped_values}
+use Rattle.hk_lines.specs.Shapes.{capped, capped_signed, capped_values}
 use Rattle.hk_model.proofs.CappedStatements.{any_map, any_from_map, same_signed, kept_signed, kept_small, same_set}
 
 -- an argument fits a kind where the one with its numbers capped does, and the other way round
@@ -54,26 +56,26 @@ fit_capped (kind ∷ kinds) [] fit = absurd fit
 fit_capped (kind ∷ kinds) (arg ∷ args) fit = (fits_capped kind arg fit.0, fit_capped kinds args fit.1)
 
 -- numbers within a limit below the cap are the same when they are capped, and so are those that are within it once they are capped
-same_numbers : (numbers : List ℤ) → All (IsWithin COEFFICIENT) (map capped_signed numbers) → map capped_signed numbers ≡ numbers
+same_numbers : (numbers : List ℤ) → All (IsWithin greatest_coefficient) (map capped_signed numbers) → map capped_signed numbers ≡ numbers
 same_numbers [] small = refl
 same_numbers (number ∷ numbers) small =
-    let first : capped_signed number ≡ number = same_signed number 1000000 (omega arith) (All-head (IsWithin COEFFICIENT) (capped_signed number) (map capped_signed numbers) small) in
-    let rest = same_numbers numbers (All-tail (IsWithin COEFFICIENT) (capped_signed number) (map capped_signed numbers) small) in
+    let first : capped_signed number ≡ number = same_signed number 1000000 (omega arith) (All-head (IsWithin greatest_coefficient) (capped_signed number) (map capped_signed numbers) small) in
+    let rest = same_numbers numbers (All-tail (IsWithin greatest_coefficient) (capped_signed number) (map capped_signed numbers) small) in
     λ i. first i ∷ rest i
 
-kept_numbers : (numbers : List ℤ) → All (IsWithin COEFFICIENT) numbers → map capped_signed numbers ≡ numbers
+kept_numbers : (numbers : List ℤ) → All (IsWithin greatest_coefficient) numbers → map capped_signed numbers ≡ numbers
 kept_numbers [] small = refl
 kept_numbers (number ∷ numbers) small =
-    let first : capped_signed number ≡ number = kept_signed number 1000000 (omega arith) (All-head (IsWithin COEFFICIENT) number numbers small) in
-    let rest = kept_numbers numbers (All-tail (IsWithin COEFFICIENT) number numbers small) in
+    let first : capped_signed number ≡ number = kept_signed number 1000000 (omega arith) (All-head (IsWithin greatest_coefficient) number numbers small) in
+    let rest = kept_numbers numbers (All-tail (IsWithin greatest_coefficient) number numbers small) in
     λ i. first i ∷ rest i
 
-kept_set : (set : List Values) → All (λ values. values.first ≤ values.last) set → All (λ values. values.last < VALUES) set → map capped_values set ≡ set
+kept_set : (set : List Values) → All (λ values. values.first ≤ values.last) set → All (λ values. values.last < value_count) set → map capped_values set ≡ set
 kept_set [] ordered within = refl
 kept_set (values ∷ set) ordered within =
-    let rest = kept_set set (All-tail (λ values. values.first ≤ values.last) values set ordered) (All-tail (λ values. values.last < VALUES) values set within) in
+    let rest = kept_set set (All-tail (λ values. values.first ≤ values.last) values set ordered) (All-tail (λ values. values.last < value_count) values set within) in
     let order : values.first ≤ values.last = All-head (λ values. values.first ≤ values.last) values set ordered in
-    let small : values.last < VALUES = All-head (λ values. values.last < VALUES) values set within in
+    let small : values.last < value_count = All-head (λ values. values.last < value_count) values set within in
     let first : capped values.first ≡ values.first = kept_small values.first 127 (omega (arith, order, small)) (omega arith) in
     let last : capped values.last ≡ values.last = kept_small values.last 127 (omega (arith, small)) (omega arith) in
     let item : capped_values values ≡ values = λ i. record { first = first i; last = last i } in

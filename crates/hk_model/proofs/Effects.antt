@@ -7,15 +7,17 @@ use Rattle.std.proofs.lemmas.Bool.{cases_lt}
 use Rattle.std.proofs.lemmas.Int.{by_lt_z, ints}
 use Rattle.hk_model.specs.declared.linear.Linear.{Linear}
 use Rattle.hk_model.specs.declared.problem.Constraint.TheVariants.{AllDifferent, Sum}
-use Rattle.hk_model.specs.declared.limits.TheConstants.{VARIABLES, VALUES, NAME_BYTES, CONSTRAINTS, COEFFICIENT, LIM}
+use Rattle.hk_model.specs.Limits.{most_variables, value_count, most_name_bytes, most_constraints, greatest_coefficient}
+use Rattle.hk_base.specs.Limits.{number_limit}
 use Rattle.hk_model.specs.LineFaults.{IsNameFault, declared_twice, not_declared, second_objective, IsLimitFault, long_name, large_value, turned_range, no_value, many_variables, many_differ, many_totals, large_least, large_most, large_total_coef, large_coef, IsScopeFault, used_names}
-use Rattle.hk_model.specs.Phrases.{Values}
+use Rattle.hk_lines.specs.Phrases.{Values}
 use Rattle.hk_model.specs.Problems.{PlainProblem, IsWithin}
-use Rattle.hk_model.specs.Statements.{Statement, Header, Variable, Distinct, Total, Objective, MayStand, place_of, term_names, term_coefs, AddsVariable, AreNamesOf, Declares, declares_header, declares_variable, declares_distinct, declares_total, declares_objective}
-use Rattle.hk_model.proofs.Decisions.{dec_both, dec_rising}
-use Rattle.hk_model.proofs.Domains.{domain_of}
-use Rattle.hk_model.proofs.Elements.{any_nil, any_first, any_later, any_cases, each_not_some, each_from_none}
-use Rattle.hk_model.proofs.Grammar.{same_places}
+use Rattle.hk_lines.specs.Statements.{Statement, Header, Variable, Distinct, Total, Objective}
+use Rattle.hk_model.specs.Declares.{MayStand, place_of, term_names, term_coefs, AddsVariable, AreNamesOf, Declares, declares_header, declares_variable, declares_distinct, declares_total, declares_objective}
+use Rattle.hk_text.proofs.Deciding.{dec_both, dec_rising}
+use Rattle.hk_lines.proofs.Domains.{domain_of}
+use Rattle.hk_lines.proofs.Elements.{any_nil, any_first, any_later, any_cases, each_not_some, each_from_none}
+use Rattle.hk_model.proofs.OneEffect.{same_places}
 
 -- whether a number is no greater than another
 pub dec_le_z : (a b : ℤ) → Dec (a ≤ℤ b)
@@ -26,11 +28,11 @@ pub dec_within : (size n : ℤ) → Dec (IsWithin size n)
 dec_within size n = map_dec (λ both. record { above = both.0; below = both.1 }) (λ within. (within.above, within.below)) (dec_both (dec_le_z (neg_ℤ size) n) (dec_le_z n size))
 
 -- whether a coefficient is within the limit, and whether a bound is
-pub dec_coefficient : (coef : ℤ) → Dec (IsWithin COEFFICIENT coef)
-dec_coefficient coef = dec_within COEFFICIENT coef
+pub dec_coefficient : (coef : ℤ) → Dec (IsWithin greatest_coefficient coef)
+dec_coefficient coef = dec_within greatest_coefficient coef
 
-pub dec_within_limit : (n : ℤ) → Dec (IsWithin LIM n)
-dec_within_limit n = dec_within LIM n
+pub dec_within_limit : (n : ℤ) → Dec (IsWithin number_limit n)
+dec_within_limit n = dec_within number_limit n
 
 -- what is not refuted is within a size
 within_since : (size n : ℤ) → ((IsWithin size n → ⊥) → ⊥) → IsWithin size n
@@ -94,8 +96,8 @@ module _ (before : PlainProblem) (name : List ℕ) (set : List Values) (fits : I
   ordered_items : All (λ values. values.first ≤ values.last) set
   ordered_items = each_from_none (λ values. values.first ≤ values.last) (λ values. values.last < values.first) (λ values. le_since values.first values.last) set (λ turned. fits (turned_range turned))
 
-  small_items : All (λ values. values.last < VALUES) set
-  small_items = each_from_none (λ values. values.last < VALUES) (λ values. VALUES ≤ values.last) (λ values. lt_since values.last VALUES) set (λ large. fits (large_value large))
+  small_items : All (λ values. values.last < value_count) set
+  small_items = each_from_none (λ values. values.last < value_count) (λ values. value_count ≤ values.last) (λ values. lt_since values.last value_count) set (λ large. fits (large_value large))
 
 -- a variable without a fault
 variable_effect : (before : PlainProblem) (name : List ℕ) (set : List Values) → (IsNameFault before (Variable name set) → ⊥) → (IsLimitFault before (Variable name set) → ⊥)
@@ -106,12 +108,12 @@ variable_effect before name set named fits =
     let domain = domain_of set ordered within in (
       record before { names = before.names ++ name ∷ []; domains = before.domains ++ domain.0 ∷ [] },
       record {
-        short = le_since (length name) NAME_BYTES (λ long. fits (long_name long));
+        short = le_since (length name) most_name_bytes (λ long. fits (long_name long));
         new = none_since (place_of before.names name) (λ some. named (declared_twice some));
         some = some_item before name set fits;
         ordered = ordered;
         within = within;
-        room = lt_since (length before.names) VARIABLES (λ many. fits (many_variables many));
+        room = lt_since (length before.names) most_variables (λ many. fits (many_variables many));
         domain = domain.0;
         is_set = domain.1;
         added = refl;
@@ -129,8 +131,8 @@ names_effect before s named ordered =
     rising scope (no falls) places = absurd (ordered (record { scope = scope; places = places; falls = falls }))
 
 -- the coefficients of terms without a fault
-small_coefs : (coefs : List ℤ) → (Any (λ coef. IsWithin COEFFICIENT coef → ⊥) coefs → ⊥) → All (IsWithin COEFFICIENT) coefs
-small_coefs coefs none = each_from_none (IsWithin COEFFICIENT) (λ coef. IsWithin COEFFICIENT coef → ⊥) (λ coef. within_since COEFFICIENT coef) coefs none
+small_coefs : (coefs : List ℤ) → (Any (λ coef. IsWithin greatest_coefficient coef → ⊥) coefs → ⊥) → All (IsWithin greatest_coefficient) coefs
+small_coefs coefs none = each_from_none (IsWithin greatest_coefficient) (λ coef. IsWithin greatest_coefficient coef → ⊥) (λ coef. within_since greatest_coefficient coef) coefs none
 
 -- a statement that may stand there and has no fault has an effect
 pub effect_of : (before : PlainProblem) (s : Statement) → MayStand (Some before) s → (IsNameFault before s → ⊥) → (IsLimitFault before s → ⊥) → (IsScopeFault before s → ⊥)
@@ -142,7 +144,7 @@ effect_of before (Variable name set) stands named fits ordered =
 effect_of before (Distinct names) stands named fits ordered =
     let scope = names_effect before (Distinct names) named ordered in (
       record before { constraints = before.constraints ++ AllDifferent scope.0 ∷ [] },
-      declares_distinct scope.1 (record { room = lt_since (length before.constraints) CONSTRAINTS (λ many. fits (many_differ many)); added = refl }),
+      declares_distinct scope.1 (record { room = lt_since (length before.constraints) most_constraints (λ many. fits (many_differ many)); added = refl }),
     )
 effect_of before (Total terms least most) stands named fits ordered =
     let scope = names_effect before (Total terms least most) named ordered in (
@@ -150,9 +152,9 @@ effect_of before (Total terms least most) stands named fits ordered =
       declares_total
           scope.1
           (small_coefs (term_coefs terms) (λ large. fits (large_total_coef large)))
-          (within_since LIM least (λ large. fits (large_least large)))
-          (within_since LIM most (λ large. fits (large_most large)))
-          (record { room = lt_since (length before.constraints) CONSTRAINTS (λ many. fits (many_totals many)); added = refl }),
+          (within_since number_limit least (λ large. fits (large_least large)))
+          (within_since number_limit most (λ large. fits (large_most large)))
+          (record { room = lt_since (length before.constraints) most_constraints (λ many. fits (many_totals many)); added = refl }),
     )
 effect_of before (Objective terms) stands named fits ordered =
     let scope = names_effect before (Objective terms) named ordered in
@@ -182,13 +184,13 @@ named_no_effect {before = before} (not_declared none) (declares_objective {terms
 named_no_effect {before = before} (second_objective some) (declares_objective are coefs adds) = some_not_none before.objective adds.new some
 
 -- some number out of a limit and all within it
-limits_apart : (coefs : List ℤ) → All (IsWithin COEFFICIENT) coefs → Any (λ coef. IsWithin COEFFICIENT coef → ⊥) coefs → ⊥
-limits_apart coefs small large = each_not_some (IsWithin COEFFICIENT) (λ coef. IsWithin COEFFICIENT coef → ⊥) (λ coef within none. none within) coefs small large
+limits_apart : (coefs : List ℤ) → All (IsWithin greatest_coefficient) coefs → Any (λ coef. IsWithin greatest_coefficient coef → ⊥) coefs → ⊥
+limits_apart coefs small large = each_not_some (IsWithin greatest_coefficient) (λ coef. IsWithin greatest_coefficient coef → ⊥) (λ coef within none. none within) coefs small large
 
 -- a statement with a limit fault has no effect
 pub limited_no_effect : {before : PlainProblem} {after : Option PlainProblem} {s : Statement} → IsLimitFault before s → Declares (Some before) s after → ⊥
 limited_no_effect (long_name long) (declares_variable adds) = let short = adds.short in omega (arith, long, short)
-limited_no_effect (large_value {set = set} large) (declares_variable adds) = each_not_some (λ values. values.last < VALUES) (λ values. VALUES ≤ values.last) (λ values less more. omega arith) set adds.within large
+limited_no_effect (large_value {set = set} large) (declares_variable adds) = each_not_some (λ values. values.last < value_count) (λ values. value_count ≤ values.last) (λ values less more. omega arith) set adds.within large
 limited_no_effect (turned_range {set = set} turned) (declares_variable adds) = each_not_some (λ values. values.first ≤ values.last) (λ values. values.last < values.first) (λ values le more. omega arith) set adds.ordered turned
 limited_no_effect no_value (declares_variable adds) = let some = adds.some in omega (arith, some)
 limited_no_effect (many_variables many) (declares_variable adds) = let room = adds.room in omega (arith, many, room)

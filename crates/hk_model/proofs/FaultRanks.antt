@@ -7,7 +7,7 @@ use Rattle.hk_text.specs.Texts.{text_of, texts_of}
 use Rattle.hk_text.specs.Tokens.{AreTokensOf, IsBadByte, HasTexts}
 use Rattle.hk_model.specs.declared.refusal.RefusalKind.{RefusalKind}
 use Rattle.hk_model.specs.declared.refusal.RefusalKind.TheVariants.{Text, Later, Syntax, Name, Limit, Scope, Unfinished}
-use Rattle.hk_model.specs.Faults.{BeginsLater}
+use Rattle.hk_lines.specs.Later.{BeginsLater}
 use Rattle.hk_model.specs.LineFaults.{SayNothingAfter, IsNameFaultOf, IsLimitFaultOf, IsFault, fault_text, fault_later, fault_syntax, fault_name, fault_limit, fault_scope, rank, IsFirstFault}
 use Rattle.hk_model.specs.Models.{Declared, IsGoodLine, good_empty, IsBadLine, IsLaterLine}
 use Rattle.hk_model.specs.Problems.{PlainProblem}

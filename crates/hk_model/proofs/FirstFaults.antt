@@ -5,19 +5,21 @@ use Rattle.hk_model.specs.declared.faults.LineFault.{LineFault}
 use Rattle.hk_model.specs.declared.faults.LineFault.TheVariants.{Bad, NoMemory}
 use Rattle.hk_model.specs.declared.refusal.RefusalKind.{RefusalKind}
 use Rattle.hk_model.specs.declared.refusal.RefusalKind.TheVariants.{Text, Later, Syntax, Name, Limit, Scope, Unfinished}
-use Rattle.hk_model.specs.declared.shapes.Shape.{Shape}
-use Rattle.hk_model.specs.Declarations.{statement_of}
-use Rattle.hk_model.specs.Faults.{IsFaultyStatement, IsStatementFault, IsLineFault}
+use Rattle.hk_lines.specs.declared.shapes.Shape.{Shape}
+use Rattle.hk_lines.specs.Plain.{statement_of}
+use Rattle.hk_model.specs.inside.Faults.{IsFaultyStatement, IsStatementFault, IsLineFault}
 use Rattle.hk_model.specs.LineFaults.{IsFirstFault}
 use Rattle.hk_model.specs.Models.{Declared, IsGoodLine, good_statement, IsLaterLine}
 use Rattle.hk_model.specs.Problems.{PlainProblem}
-use Rattle.hk_model.specs.Shapes.{capped_statement, IsShapeOf}
-use Rattle.hk_model.specs.Statements.{Statement, Says, MayStand, Declares}
+use Rattle.hk_lines.specs.Shapes.{capped_statement, IsShapeOf}
+use Rattle.hk_lines.specs.Statements.{Statement, Says}
+use Rattle.hk_model.specs.Declares.{MayStand, Declares}
 use Rattle.hk_model.proofs.CappedStatements.{name_whole, name_capped, limit_whole, limit_capped, scope_whole, stand_capped, declares_whole}
 use Rattle.hk_model.proofs.FaultRanks.{first_syntax, first_name, first_limit, first_scope, fault_bad}
-use Rattle.hk_model.proofs.FirstWords.{statement_no_post, statement_no_opening, later_says_nothing}
+use Rattle.hk_lines.proofs.FirstWords.{statement_no_post, later_says_nothing}
+use Rattle.hk_model.proofs.FirstWords.{statement_no_opening}
 use Rattle.hk_text.proofs.Reading.{same_texts}
-use Rattle.hk_model.proofs.Grammar.{says_one, says_nothing}
+use Rattle.hk_lines.proofs.Grammar.{says_one, says_nothing}
 use Rattle.hk_model.proofs.Meanings.{Meaning, Means, means_statement, means_post, means_opening, means_inside, outside_inside, none_say_nothing}
 use Rattle.hk_model.proofs.MeantFaults.{named_stands, limited_stands, unordered_stands}
 

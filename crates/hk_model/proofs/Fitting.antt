@@ -5,30 +5,31 @@ use Rattle.std.specs.Prelude.{All, Any}
 use Rattle.std.specs.List.{HoldsAt}
 use Rattle.std.proofs.lemmas.List.{length-map, get_or-map}
 use Rattle.std.proofs.lemmas.List.Elements.{All-cons, All-nil, All-map}
-use Rattle.hk_model.specs.declared.limits.TheConstants.{VALUES, CONSTRAINTS, COEFFICIENT}
-use Rattle.hk_model.specs.declared.phrases.Values.{Values as ReadValues}
-use Rattle.hk_model.specs.declared.phrases.Term.{Term as ReadTerm}
-use Rattle.hk_model.specs.Declarations.{values_of, terms_of, statement_of, FitsTotal, AddsDistinct, AddsTotal, AddsLeast}
-use Rattle.hk_model.specs.declared.shapes.Shape.{Shape}
+use Rattle.hk_model.specs.Limits.{value_count, most_constraints, greatest_coefficient}
+use Rattle.hk_lines.specs.declared.phrases.Values.{Values as ReadValues}
+use Rattle.hk_lines.specs.declared.phrases.Term.{Term as ReadTerm}
+use Rattle.hk_lines.specs.Plain.{values_of, terms_of, statement_of, plain_values, plain_term}
+use Rattle.hk_model.specs.inside.Fits.{FitsTotal, AddsDistinct, AddsTotal, AddsLeast}
+use Rattle.hk_lines.specs.declared.shapes.Shape.{Shape}
 use Rattle.hk_model.specs.declared.faults.LineFault.{LineFault}
 use Rattle.hk_model.specs.declared.faults.LineFault.TheVariants.{Bad, NoMemory}
-use Rattle.hk_model.specs.Faults.{IsFaultyStatement, IsStatementFault, IsPlaceFault}
+use Rattle.hk_model.specs.inside.Faults.{IsFaultyStatement, IsStatementFault, IsPlaceFault}
 use Rattle.hk_model.specs.LineFaults.{used_names, IsNameFault, not_declared, second_objective, IsLimitFault, no_value, large_value, turned_range, many_differ, many_totals, large_least, large_most, large_total_coef, large_coef}
-use Rattle.hk_model.specs.Phrases.{Values, Term}
+use Rattle.hk_lines.specs.Phrases.{Values, Term}
 use Rattle.hk_model.specs.Problems.{PlainProblem, IsWithin}
-use Rattle.hk_model.specs.Declarations.{plain_values, plain_term}
-use Rattle.hk_model.specs.Statements.{Statement, Variable, Distinct, Total, Objective, place_of, term_names, term_coefs, Declares, declares_distinct, declares_total, declares_objective}
+use Rattle.hk_lines.specs.Statements.{Statement, Variable, Distinct, Total, Objective}
+use Rattle.hk_model.specs.Declares.{place_of, term_names, term_coefs, Declares, declares_distinct, declares_total, declares_objective}
 use Rattle.hk_model.proofs.Effects.{dec_coefficient, no_places_of}
-use Rattle.hk_model.proofs.Elements.{any_first, any_later, each_not_some}
+use Rattle.hk_lines.proofs.Elements.{any_first, any_later, each_not_some}
 
 -- where not each coefficient is within the limit, some coefficient is not
-pub some_large : (terms : List ReadTerm) → (All (λ term. IsWithin COEFFICIENT term.coef) terms → ⊥) → Any (λ coef. IsWithin COEFFICIENT coef → ⊥) (term_coefs (terms_of terms))
-some_large [] some = absurd (some (All-nil (λ term. IsWithin COEFFICIENT term.coef)))
-some_large (term ∷ terms) some = by (dec_coefficient term.coef) (λ within. some_large terms (λ all. some (All-cons (λ term. IsWithin COEFFICIENT term.coef) term terms within all)))
+pub some_large : (terms : List ReadTerm) → (All (λ term. IsWithin greatest_coefficient term.coef) terms → ⊥) → Any (λ coef. IsWithin greatest_coefficient coef → ⊥) (term_coefs (terms_of terms))
+some_large [] some = absurd (some (All-nil (λ term. IsWithin greatest_coefficient term.coef)))
+some_large (term ∷ terms) some = by (dec_coefficient term.coef) (λ within. some_large terms (λ all. some (All-cons (λ term. IsWithin greatest_coefficient term.coef) term terms within all)))
   where
-    by : Dec (IsWithin COEFFICIENT term.coef) → (IsWithin COEFFICIENT term.coef → Any (λ coef. IsWithin COEFFICIENT coef → ⊥) (term_coefs (terms_of terms))) → Any (λ coef. IsWithin COEFFICIENT coef → ⊥) (term_coefs (terms_of (term ∷ terms)))
-    by (yes within) later = any_later (λ coef. IsWithin COEFFICIENT coef → ⊥) term.coef (term_coefs (terms_of terms)) (later within)
-    by (no large) later = any_first (λ coef. IsWithin COEFFICIENT coef → ⊥) term.coef (term_coefs (terms_of terms)) large
+    by : Dec (IsWithin greatest_coefficient term.coef) → (IsWithin greatest_coefficient term.coef → Any (λ coef. IsWithin greatest_coefficient coef → ⊥) (term_coefs (terms_of terms))) → Any (λ coef. IsWithin greatest_coefficient coef → ⊥) (term_coefs (terms_of (term ∷ terms)))
+    by (yes within) later = any_later (λ coef. IsWithin greatest_coefficient coef → ⊥) term.coef (term_coefs (terms_of terms)) (later within)
+    by (no large) later = any_first (λ coef. IsWithin greatest_coefficient coef → ⊥) term.coef (term_coefs (terms_of terms)) large
 
 -- a set without items has no value
 pub nothing_fits : (before : PlainProblem) (name : List ℕ) (set : List ReadValues) → (length set == 0) ≡ true → IsLimitFault before (Variable name (values_of set))
@@ -39,7 +40,7 @@ nothing_fits before name (values ∷ set) none =
 
 -- values that are too great, or turned
 abbrev pub PassesLimit : ReadValues → Type 0
-PassesLimit values = (VALUES ≤ values.last) ⊎ (values.last < values.first)
+PassesLimit values = (value_count ≤ values.last) ⊎ (values.last < values.first)
 
 -- where values at a place of a set have a property, some of the set have it
 some_at : (P : Values → Type 0) (set : List ReadValues) (k : ℕ) → k < length set → P (plain_values (get_or set k (record { first = 0; last = 0 }))) → Any P (values_of set)
@@ -54,7 +55,7 @@ some_at P set k within p =
 pub some_passes : (before : PlainProblem) (name : List ℕ) (set : List ReadValues) → (k : ℕ) × (k < length set) × HoldsAt PassesLimit set k → IsLimitFault before (Variable name (values_of set))
 some_passes before name set (k, within, at) =
     ⊎_elim
-    (λ great. large_value (some_at (λ values. VALUES ≤ values.last) set k within great))
+    (λ great. large_value (some_at (λ values. value_count ≤ values.last) set k within great))
     (λ turned. turned_range (some_at (λ values. values.last < values.first) set k within turned))
     (at (record { first = 0; last = 0 }))
 
@@ -76,16 +77,16 @@ module _ {before : PlainProblem} (scope : List ℕ) where
   objective_named places new (second_objective some) = new some
 
 -- where there is room for a constraint, its scope passes no limit
-pub distinct_fits : {before : PlainProblem} {names : List (List ℕ)} → length before.constraints < CONSTRAINTS → IsLimitFault before (Distinct names) → ⊥
+pub distinct_fits : {before : PlainProblem} {names : List (List ℕ)} → length before.constraints < most_constraints → IsLimitFault before (Distinct names) → ⊥
 distinct_fits room (many_differ many) = omega (arith, room, many)
 
 -- the coefficients of terms that are each within the limit
-small_coefs : (terms : List ReadTerm) → All (λ term. IsWithin COEFFICIENT term.coef) terms → All (IsWithin COEFFICIENT) (term_coefs (terms_of terms))
-small_coefs terms all = All-map (IsWithin COEFFICIENT) (λ term. term.coef) (terms_of terms) (All-map (λ term. IsWithin COEFFICIENT term.coef) plain_term terms all)
+small_coefs : (terms : List ReadTerm) → All (λ term. IsWithin greatest_coefficient term.coef) terms → All (IsWithin greatest_coefficient) (term_coefs (terms_of terms))
+small_coefs terms all = All-map (IsWithin greatest_coefficient) (λ term. term.coef) (terms_of terms) (All-map (λ term. IsWithin greatest_coefficient term.coef) plain_term terms all)
 
 -- no coefficient passes the limit where each is within it
-no_large : (terms : List ReadTerm) → All (λ term. IsWithin COEFFICIENT term.coef) terms → Any (λ coef. IsWithin COEFFICIENT coef → ⊥) (term_coefs (terms_of terms)) → ⊥
-no_large terms all some = each_not_some (IsWithin COEFFICIENT) (λ coef. IsWithin COEFFICIENT coef → ⊥) (λ coef within large. large within) (term_coefs (terms_of terms)) (small_coefs terms all) some
+no_large : (terms : List ReadTerm) → All (λ term. IsWithin greatest_coefficient term.coef) terms → Any (λ coef. IsWithin greatest_coefficient coef → ⊥) (term_coefs (terms_of terms)) → ⊥
+no_large terms all some = each_not_some (IsWithin greatest_coefficient) (λ coef. IsWithin greatest_coefficient coef → ⊥) (λ coef within large. large within) (term_coefs (terms_of terms)) (small_coefs terms all) some
 
 -- a sum that passes no limit has no fault of one
 pub total_fits : {before : PlainProblem} {terms : List ReadTerm} {least most : ℤ} → FitsTotal terms least most before → IsLimitFault before (Total (terms_of terms) least most) → ⊥
@@ -95,7 +96,7 @@ total_fits fits (large_most large) = large fits.most_fits
 total_fits {terms = terms} fits (large_total_coef some) = no_large terms fits.coefs_fit some
 
 -- nor has an objective whose coefficients are within the limit
-pub objective_fits : {before : PlainProblem} (terms : List ReadTerm) → All (λ term. IsWithin COEFFICIENT term.coef) terms → IsLimitFault before (Objective (terms_of terms)) → ⊥
+pub objective_fits : {before : PlainProblem} (terms : List ReadTerm) → All (λ term. IsWithin greatest_coefficient term.coef) terms → IsLimitFault before (Objective (terms_of terms)) → ⊥
 objective_fits terms all (large_coef some) = no_large terms all some
 
 -- what is declared after a scope, a sum or an objective is declared after its statement

@@ -5,7 +5,7 @@ use Rattle.hk_parse.specs.declared.faults.BlockFault.{BlockFault}
 use Rattle.hk_parse.specs.declared.faults.BlockFault.TheVariants as block
 use Rattle.hk_parse.specs.BlockFaults.{GoesOn, Ends, IsLineFault as IsBlockFault}
 use Rattle.hk_parse.specs.BlockLines.{Part}
-use Rattle.hk_model.specs.Faults.{EndsBlock, IsLineFault, as_line_fault}
+use Rattle.hk_model.specs.inside.Faults.{EndsBlock, IsLineFault, as_line_fault}
 use Rattle.hk_model.specs.LineFaults.{SayNothingAfter}
 use Rattle.hk_model.specs.Models.{Declared, IsGoodLine, good_inside, good_end}
 use Rattle.hk_model.proofs.FaultRanks.{first_syntax, first_name, first_limit, fault_bad}

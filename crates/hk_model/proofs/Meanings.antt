@@ -4,18 +4,21 @@ use Rattle.std.proofs.Math.Decide.{map_dec}
 use Rattle.hk_parse.specs.BlockLines.{Part, MayStand as MayStandIn}
 use Rattle.hk_parse.specs.LineTexts.{ParamText, LineText, Begin, Property, Test, Step, End, SaysLine}
 use Rattle.hk_model.specs.LineFaults.{SayNothingOutside, SayNothingAfter}
-use Rattle.hk_model.specs.Models.{Declared, later_words}
-use Rattle.hk_model.specs.Posts.{Post, SaysPost}
-use Rattle.hk_model.specs.Statements.{Statement, Says, MayStand}
+use Rattle.hk_model.specs.Models.{Declared}
+use Rattle.hk_lines.specs.Later.{later_words}
+use Rattle.hk_lines.specs.Posts.{Post, SaysPost}
+use Rattle.hk_lines.specs.Statements.{Statement, Says}
+use Rattle.hk_model.specs.Declares.{MayStand}
 use Rattle.hk_parse.proofs.LineReadings.{says_inside_one, opening_one}
 use Rattle.hk_parse.proofs.LineDecisions.{dec_inside, dec_opening}
-use Rattle.hk_model.proofs.Decisions.{dec_both, dec_either, dec_true}
-use Rattle.hk_model.proofs.FirstWords.{statement_no_post, statement_no_opening, post_no_opening, nothing_no_post, nothing_no_opening, later_says_nothing, later_no_post, later_no_opening}
-use Rattle.hk_model.proofs.Grammar.{says_one, says_nothing}
-use Rattle.hk_model.proofs.Marks.{apart_none}
-use Rattle.hk_model.proofs.Posting.{says_post_one}
-use Rattle.hk_model.proofs.PostTexts.{dec_post}
-use Rattle.hk_model.proofs.Sayings.{dec_says}
+use Rattle.hk_text.proofs.Deciding.{dec_both, dec_either, dec_true}
+use Rattle.hk_lines.proofs.FirstWords.{statement_no_post, nothing_no_post, later_says_nothing, later_no_post}
+use Rattle.hk_model.proofs.FirstWords.{statement_no_opening, post_no_opening, nothing_no_opening, later_no_opening}
+use Rattle.hk_lines.proofs.Grammar.{says_one, says_nothing}
+use Rattle.hk_text.proofs.TokenTexts.{apart_none}
+use Rattle.hk_lines.proofs.Posting.{says_post_one}
+use Rattle.hk_lines.proofs.PostTexts.{dec_post}
+use Rattle.hk_lines.proofs.Sayings.{dec_says}
 use Rattle.hk_model.proofs.StatementFaults.{dec_may_stand}
 
 -- a statement, a post, the first line of a specification, or another line of one

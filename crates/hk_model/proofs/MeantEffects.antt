@@ -1,18 +1,19 @@
 -- What a line declares, by what it means: it is determined, and it is what makes the line good.
 use Rattle.hk_text.specs.Tokens.{HasTexts}
 use Rattle.std.proofs.Common.{◌≡◌, ◌≢◌, ℕ, List, [], ◌∷◌, ◌++◌, Option, None, Some, IsSome, is_some, refl, sym, ap, subst, ◌∙◌, true≢false}
-use Rattle.hk_parse.specs.BlockLines.{Part, IsGoodAfter}
+use Rattle.hk_parse.specs.BlockLines.{Part, IsGoodAfter, whole_spec}
 use Rattle.hk_parse.specs.LineTexts.{ParamText, LineText, End}
 use Rattle.hk_spec.specs.declared.expressions.Cond.{Cond}
 use Rattle.hk_model.specs.Models.{Declared, Opens, IsGoodLine, good_empty, good_statement, good_post, good_opening, good_inside, good_end}
-use Rattle.hk_parse.specs.BlockLines.{whole_spec}
-use Rattle.hk_model.specs.Posts.{Post, AddsPost}
+use Rattle.hk_lines.specs.Posts.{Post}
+use Rattle.hk_model.specs.Postings.{AddsPost}
 use Rattle.hk_model.specs.Problems.{PlainProblem}
-use Rattle.hk_model.specs.Statements.{Statement, Declares}
+use Rattle.hk_lines.specs.Statements.{Statement}
+use Rattle.hk_model.specs.Declares.{Declares}
 use Rattle.hk_parse.proofs.LineEffects.{begins_one, good_after_one}
 use Rattle.hk_model.proofs.Effects.{effect_stands}
 use Rattle.hk_text.proofs.Reading.{same_texts}
-use Rattle.hk_model.proofs.Grammar.{declares_one}
+use Rattle.hk_model.proofs.OneEffect.{declares_one}
 use Rattle.hk_model.proofs.Meanings.{Meaning, Stating, Posting, Opening, Inside, Means, means_statement, means_post, means_opening, means_inside, means_one, nothing_means}
 use Rattle.hk_model.proofs.PostEffects.{post_effect_one}
 use Rattle.hk_model.proofs.Soundness.{IsSound, open_part}

@@ -3,22 +3,22 @@ use Rattle.std.proofs.Common.{◌≡◌, ◌≢◌, ℕ, ◌≤◌, ◌⊎◌, i
 use Rattle.std.specs.List.Sorted.{IsStrictlyIncreasing}
 use Rattle.std.proofs.Math.Decide.{dec_le}
 use Rattle.std.proofs.lemmas.Bool.{cases_lt}
-use Rattle.hk_parse.specs.BlockLines.{Part, MayStand as MayStandIn, BeginNameFault, BeginLimitFault, LineNameFault, LineLimitFault}
+use Rattle.hk_parse.specs.BlockLines.{Part, MayStand as MayStandIn, BeginNameFault, BeginLimitFault, LineNameFault, LineLimitFault, whole_spec}
 use Rattle.hk_parse.specs.Blocks.{IsPart}
 use Rattle.hk_parse.specs.LineTexts.{LineText, Begin, Property, Test, Step, End, IsLineText}
 use Rattle.hk_spec.specs.declared.expressions.Cond.{Cond}
-use Rattle.hk_model.specs.declared.limits.TheConstants.{SPECIFICATIONS}
+use Rattle.hk_model.specs.Limits.{most_specifications}
 use Rattle.hk_model.specs.LineFaults.{IsNameFault, declared_twice, not_declared, second_objective, IsLimitFault, long_name, large_value, turned_range, no_value, many_variables, many_differ, many_totals, large_least, large_most, large_total_coef, large_coef, IsScopeFault, IsNameFaultOf, name_of_statement, name_of_post, name_of_opening, name_inside, IsLimitFaultOf, limit_of_statement, limit_of_post, limit_of_opening, limit_inside, IsScopeFaultOf, scope_of_statement, scope_of_post}
 use Rattle.hk_model.specs.Models.{Declared}
-use Rattle.hk_parse.specs.BlockLines.{whole_spec}
-use Rattle.hk_model.specs.Posts.{PostNameFault, PostLimitFault, PostScopeFault, AddsPost, spec_of}
+use Rattle.hk_model.specs.Postings.{PostNameFault, PostLimitFault, PostScopeFault, AddsPost, spec_of}
 use Rattle.hk_model.specs.Problems.{PlainProblem}
-use Rattle.hk_model.specs.Statements.{Statement, Header, Variable, Distinct, Total, Objective, MayStand, empty_problem, Declares, declares_header}
+use Rattle.hk_lines.specs.Statements.{Statement, Header, Variable, Distinct, Total, Objective}
+use Rattle.hk_model.specs.Declares.{MayStand, empty_problem, Declares, declares_header}
 use Rattle.hk_parse.proofs.LineEffects.{begins_exists, good_after_exists}
 use Rattle.hk_parse.proofs.LineDecisions.{dec_begin_name, dec_begin_limit, dec_line_name, dec_line_limit}
-use Rattle.hk_model.proofs.Decisions.{dec_either, dec_true}
+use Rattle.hk_text.proofs.Deciding.{dec_either, dec_true}
 use Rattle.hk_model.proofs.Effects.{effect_of, named_no_effect, limited_no_effect, unordered_no_effect}
-use Rattle.hk_model.proofs.Elements.{any_nil}
+use Rattle.hk_lines.proofs.Elements.{any_nil}
 use Rattle.hk_model.proofs.Meanings.{Meaning, Stating, Posting, Opening, Inside, Means, means_statement, means_post, means_opening, means_inside, means_one}
 use Rattle.hk_model.proofs.MeantEffects.{Effect, effect_statement, effect_post, effect_opening, effect_inside, effect_end}
 use Rattle.hk_model.proofs.PostEffects.{post_effect, named_no_post, limited_no_post, unordered_no_post, dec_post_name, dec_post_limit, dec_post_scope}
@@ -35,7 +35,7 @@ NameFaultIn before problem (Inside part text) = LineNameFault part text
 abbrev pub LimitFaultIn : Declared → PlainProblem → Meaning → Type 0
 LimitFaultIn before problem (Stating s) = IsLimitFault problem s
 LimitFaultIn before problem (Posting post) = PostLimitFault problem post
-LimitFaultIn before problem (Opening name params) = (SPECIFICATIONS ≤ length before.specs) ⊎ BeginLimitFault name params
+LimitFaultIn before problem (Opening name params) = (most_specifications ≤ length before.specs) ⊎ BeginLimitFault name params
 LimitFaultIn before problem (Inside part text) = LineLimitFault part text
 
 abbrev pub ScopeFaultIn : PlainProblem → Meaning → Type 0
@@ -174,7 +174,7 @@ dec_name_in before problem (Inside part text) = dec_line_name part text
 pub dec_limit_in : (before : Declared) (problem : PlainProblem) (m : Meaning) → Dec (LimitFaultIn before problem m)
 dec_limit_in before problem (Stating s) = dec_limit_fault problem s
 dec_limit_in before problem (Posting post) = dec_post_limit problem post
-dec_limit_in before problem (Opening name params) = dec_either (dec_le SPECIFICATIONS (length before.specs)) (dec_begin_limit name params)
+dec_limit_in before problem (Opening name params) = dec_either (dec_le most_specifications (length before.specs)) (dec_begin_limit name params)
 dec_limit_in before problem (Inside part text) = dec_line_limit part text
 
 pub dec_scope_in : (problem : PlainProblem) (m : Meaning) → Dec (ScopeFaultIn problem m)
@@ -220,7 +220,7 @@ meant_effect {before = before} {problem = problem} sound started (means_post {po
     (record before { problem = Some found.0 }, effect_post started found.1)
 meant_effect {before = before} sound started (means_opening {name = name} {params = params} out some says) named limited unordered =
     let found = begins_exists name params (λ fault. named (inr fault)) (λ fault. limited (inr fault)) in
-    let room = ⊎_elim (λ less. less) (λ many. absurd (limited (inl many))) (cases_lt (length before.specs) SPECIFICATIONS) in
+    let room = ⊎_elim (λ less. less) (λ many. absurd (limited (inl many))) (cases_lt (length before.specs) most_specifications) in
     (record before { block = Some found.0 }, effect_opening (record { new = none_since (spec_of before.specs name) (λ taken. named (inl taken)); room = room; begins = found.1 }))
 meant_effect {before = before} sound started (means_inside {part = part} {text = text} is says stands) named limited unordered =
     inside_effect before part text (open_part sound is) says.written stands named limited

@@ -10,7 +10,7 @@ use Rattle.indexmap.proofs.MapLemmas.{Missing-position, insert_entry-absent}
 use Rattle.hk_model.specs.declared.problem.Constraint.{Constraint}
 use Rattle.hk_model.specs.declared.linear.Linear.{Linear}
 use Rattle.hk_model.specs.Problems.{PlainProblem}
-use Rattle.hk_model.specs.Statements.{place_of}
+use Rattle.hk_model.specs.Declares.{place_of}
 
 -- bytes as a key
 abbrev pub Key : Type 0

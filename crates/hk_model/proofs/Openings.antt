@@ -1,6 +1,6 @@
 -- A line that begins with `spec`, outside of a specification: it opens one, or has a first fault.
 use Rattle.hk_text.specs.Tokens.{HasTexts}
-use Rattle.std.proofs.Common.{◌≡◌, ◌↔◌, ℕ, ◌<◌, ◌≤◌, ◌⊎◌, inl, inr, Bool, true, false, IsTrue, List, [], ◌∷◌, length, Option, None, Some, IsSome, refl, sym, ◌∙◌, true≢false}
+use Rattle.std.proofs.Common.{◌≡◌, ◌↔◌, ℕ, ◌<◌, ◌≤◌, ◌⊎◌, inl, inr, Bool, true, false, IsTrue, List, ◌∷◌, length, Option, None, Some, IsSome, refl, sym, ◌∙◌, true≢false}
 use Rattle.std.specs.Prelude.{codes}
 use Rattle.hk_text.specs.Lexemes.{IsWord}
 use Rattle.hk_parse.specs.declared.faults.BlockFault.{BlockFault}
@@ -11,16 +11,16 @@ use Rattle.hk_parse.specs.LineTexts.{ParamText, Begin, SaysLine, param_texts}
 use Rattle.hk_parse.specs.SetTexts.{in_parentheses}
 use Rattle.hk_spec.specs.Specifications.{Specification}
 use Rattle.hk_model.specs.declared.faults.LineFault.TheVariants.{Bad}
-use Rattle.hk_model.specs.declared.limits.TheConstants.{SPECIFICATIONS}
+use Rattle.hk_model.specs.Limits.{most_specifications}
 use Rattle.hk_model.specs.declared.refusal.RefusalKind.TheVariants.{Syntax, Name, Limit}
-use Rattle.hk_model.specs.Faults.{IsLineFault, as_begin_fault}
+use Rattle.hk_model.specs.inside.Faults.{IsLineFault, as_begin_fault}
 use Rattle.hk_model.specs.Models.{Declared, IsGoodLine, good_opening, IsLaterLine}
-use Rattle.hk_model.specs.Posts.{spec_of}
-use Rattle.hk_model.specs.Statements.{Statement, Says, says_header, says_variable, says_distinct, says_total, says_objective}
+use Rattle.hk_model.specs.Postings.{spec_of}
+use Rattle.hk_lines.specs.Statements.{Statement, Says, says_header, says_variable, says_distinct, says_total, says_objective}
 use Rattle.hk_model.proofs.FaultRanks.{first_syntax, first_name, first_limit, fault_bad}
-use Rattle.hk_model.proofs.FirstWords.{later_apart}
+use Rattle.hk_lines.proofs.FirstWords.{later_apart}
 use Rattle.hk_text.proofs.Reading.{same_texts}
-use Rattle.hk_model.proofs.Marks.{apart, apart_none}
+use Rattle.hk_text.proofs.TokenTexts.{apart, apart_none}
 use Rattle.hk_model.proofs.Meanings.{Meaning, Means, means_statement, means_post, means_opening, means_inside, outside_inside, none_say_nothing}
 use Rattle.hk_model.proofs.MeantEffects.{started_problem}
 
@@ -76,7 +76,7 @@ module _ (before : Declared) {line : List ℕ} {texts rest : List (List ℕ)} (h
     no_name says free named (inr fault) = named fault
 
     -- a first line that passes a limit, without a taken name
-    opening_limit : {name : List ℕ} {params : List ParamText} → SaysLine texts (Begin name params) → taken ≡ false → (BeginNameFault params → ⊥) → (SPECIFICATIONS ≤ length before.specs) ⊎ BeginLimitFault name params → IsLineFault before line (Bad Limit)
+    opening_limit : {name : List ℕ} {params : List ParamText} → SaysLine texts (Begin name params) → taken ≡ false → (BeginNameFault params → ⊥) → (most_specifications ≤ length before.specs) ⊎ BeginLimitFault name params → IsLineFault before line (Bad Limit)
     opening_limit says free named fault =
         let first = first_limit has (started_problem before.problem started).1 (means_opening out started says) fault (no_name says free named) in
         (fault_bad first.fault, first)
@@ -86,11 +86,11 @@ module _ (before : Declared) {line : List ℕ} {texts rest : List (List ℕ)} (h
     begun_taken begun is = opening_name begun.says (inl ((taken_name before.specs tells begun.says).0 is))
 
     -- what is good but for the number of specifications
-    pub begun_full : {part : Part} → BeginsWith texts part → taken ≡ false → SPECIFICATIONS ≤ length before.specs → IsLineFault before line (Bad Limit)
+    pub begun_full : {part : Part} → BeginsWith texts part → taken ≡ false → most_specifications ≤ length before.specs → IsLineFault before line (Bad Limit)
     begun_full begun free full = opening_limit begun.says free begun.begins.free (inl full)
 
     -- what is good
-    pub begun_opens : {part : Part} → BeginsWith texts part → taken ≡ false → length before.specs < SPECIFICATIONS → IsGoodLine before line (record before { block = Some part })
+    pub begun_opens : {part : Part} → BeginsWith texts part → taken ≡ false → length before.specs < most_specifications → IsGoodLine before line (record before { block = Some part })
     begun_opens begun free room = good_opening has out begun.says (started_problem before.problem started).1 (record {
       new = none_since (spec_of before.specs begun.name) (λ some. no_name begun.says free begun.begins.free (inl some));
       room = room;

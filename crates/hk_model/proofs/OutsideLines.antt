@@ -6,25 +6,28 @@ use Rattle.hk_parse.specs.LineTexts.{param_texts}
 use Rattle.hk_parse.specs.SetTexts.{in_parentheses}
 use Rattle.hk_model.specs.declared.faults.LineFault.{LineFault}
 use Rattle.hk_model.specs.declared.faults.LineFault.TheVariants.{Bad, NoMemory}
-use Rattle.hk_model.specs.declared.posts.PostShape.{PostShape}
+use Rattle.hk_lines.specs.declared.posts.PostShape.{PostShape}
 use Rattle.hk_model.specs.declared.refusal.RefusalKind.{RefusalKind}
-use Rattle.hk_model.specs.declared.shapes.Shape.{Shape}
-use Rattle.hk_model.specs.Declarations.{statement_of}
+use Rattle.hk_lines.specs.declared.shapes.Shape.{Shape}
+use Rattle.hk_lines.specs.Plain.{statement_of}
 use Rattle.hk_model.specs.declared.refusal.RefusalKind.TheVariants.{Text, Later, Syntax, Name, Limit, Scope, Unfinished}
-use Rattle.hk_model.specs.Faults.{IsLineFault, Posts, IsPostFaultAfter}
+use Rattle.hk_model.specs.inside.Faults.{IsLineFault, Posts, IsPostFaultAfter}
 use Rattle.hk_model.specs.LineFaults.{IsFirstFault}
 use Rattle.hk_model.specs.Models.{Declared, IsGoodLine, good_post, IsLaterLine}
-use Rattle.hk_model.specs.Posts.{Post, SaysPost, AddsPost}
-use Rattle.hk_model.specs.PostShapes.{plain_post, IsPostShapeOf, IsFaultyPost, IsPostFault}
+use Rattle.hk_lines.specs.Posts.{Post, SaysPost}
+use Rattle.hk_model.specs.Postings.{AddsPost}
+use Rattle.hk_lines.specs.PostShapes.{plain_post, IsPostShapeOf}
+use Rattle.hk_model.specs.inside.PostFaults.{IsFaultyPost, IsPostFault}
 use Rattle.hk_model.specs.Problems.{PlainProblem}
-use Rattle.hk_model.specs.Shapes.{IsShapeOf, SayNothing}
-use Rattle.hk_model.specs.Statements.{Statement, Says, says_header, says_variable, says_distinct, says_total, says_objective, Declares}
+use Rattle.hk_lines.specs.Shapes.{IsShapeOf, SayNothing}
+use Rattle.hk_lines.specs.Statements.{Statement, Says, says_header, says_variable, says_distinct, says_total, says_objective}
+use Rattle.hk_model.specs.Declares.{Declares}
 use Rattle.hk_model.proofs.CappedPosts.{post_fault_whole, adds_post_whole}
 use Rattle.hk_model.proofs.FaultRanks.{first_syntax, first_name, first_limit, first_scope, fault_bad}
 use Rattle.hk_model.proofs.FirstFaults.{effect_of_statement}
-use Rattle.hk_model.proofs.FirstWords.{later_apart}
+use Rattle.hk_lines.proofs.FirstWords.{later_apart}
 use Rattle.hk_text.proofs.Reading.{same_texts}
-use Rattle.hk_model.proofs.Marks.{apart, apart_none}
+use Rattle.hk_text.proofs.TokenTexts.{apart, apart_none}
 use Rattle.hk_model.proofs.Meanings.{Meaning, Means, means_statement, means_post, means_opening, means_inside, outside_inside, none_say_nothing}
 
 module _ (before : Declared) {line : List ℕ} {texts : List (List ℕ)} (has : HasTexts line texts) (some : texts ≢ []) (out : before.block ≡ None) where

@@ -2,9 +2,9 @@
 use Rattle.std.proofs.Common.{◌≡◌, ℕ, ◌+◌, ◌<◌, ◌≤◌, List, [], ◌∷◌, ◌++◌, length, map, drop, get_or, Option, None, Some, Any, Bor, pos, ap, sym, ◌∙◌, append_assoc}
 use Rattle.std.proofs.lemmas.List.{map-append, drop_more, length-map, get_or-map, append-nil, at_drop_all}
 use Rattle.std.proofs.lemmas.Simd.{map-map}
-use Rattle.hk_model.specs.declared.phrases.Term.{Term}
-use Rattle.hk_model.specs.Declarations.{terms_of}
-use Rattle.hk_model.specs.Statements.{term_names}
+use Rattle.hk_lines.specs.declared.phrases.Term.{Term}
+use Rattle.hk_lines.specs.Plain.{terms_of}
+use Rattle.hk_model.specs.Declares.{term_names}
 
 -- any reference, and any term
 abbrev pub any_reference : Bor (List ℕ)

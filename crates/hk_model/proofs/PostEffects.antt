@@ -11,18 +11,20 @@ use Rattle.hk_spec.specs.declared.arguments.Arg.TheVariants as argument
 use Rattle.hk_spec.specs.declared.parts.ParamKind.{ParamKind}
 use Rattle.hk_spec.specs.declared.parts.ParamKind.TheVariants as param
 use Rattle.hk_spec.specs.Specifications.{Specification, param_kinds}
-use Rattle.hk_model.specs.declared.limits.TheConstants.{CONSTRAINTS, VALUES, COEFFICIENT}
+use Rattle.hk_model.specs.Limits.{most_constraints, value_count, greatest_coefficient}
 use Rattle.hk_model.specs.declared.problem.Constraint.{Constraint}
 use Rattle.hk_model.specs.declared.problem.Constraint.TheVariants.{User}
 use Rattle.hk_model.specs.LineFaults.{IsScopeFault}
-use Rattle.hk_model.specs.Posts.{ArgText, Number, Set, Numbers, Post, spec_of, FitsKind, FitKinds, IsSmallArg, IsArgOf, AreArgsOf, PostNameFault, no_spec, other_args, no_variable, PostLimitFault, many_posts, large_arg, PostScopeFault, AddsPost}
+use Rattle.hk_lines.specs.Posts.{ArgText, Number, Set, Numbers, Post}
+use Rattle.hk_model.specs.Postings.{spec_of, FitsKind, FitKinds, IsSmallArg, IsArgOf, AreArgsOf, PostNameFault, no_spec, other_args, no_variable, PostLimitFault, many_posts, large_arg, PostScopeFault, AddsPost}
 use Rattle.hk_model.specs.Problems.{PlainProblem, IsWithin}
-use Rattle.hk_model.specs.Statements.{Distinct, place_of}
-use Rattle.hk_model.proofs.Decisions.{dec_both, dec_either, dec_not, dec_all, dec_rising, dec_test}
-use Rattle.hk_model.proofs.Domains.{domain_of}
+use Rattle.hk_lines.specs.Statements.{Distinct}
+use Rattle.hk_model.specs.Declares.{place_of}
+use Rattle.hk_text.proofs.Deciding.{dec_both, dec_either, dec_not, dec_all, dec_rising, dec_test, dec_any}
+use Rattle.hk_lines.proofs.Domains.{domain_of, same_domains}
 use Rattle.hk_model.proofs.Effects.{dec_coefficient, dec_within_limit, places_of, no_places_of}
-use Rattle.hk_model.proofs.Elements.{dec_any, each_not_some, each_from_none}
-use Rattle.hk_model.proofs.Grammar.{same_domains, same_places, same_scopes, same_added_constraint}
+use Rattle.hk_lines.proofs.Elements.{each_not_some, each_from_none}
+use Rattle.hk_model.proofs.OneEffect.{same_places, same_scopes, same_added_constraint}
 use Rattle.hk_model.proofs.StatementFaults.{dec_undeclared, dec_scope_fault}
 
 -- whether an argument has the form that a kind asks
@@ -49,8 +51,8 @@ pub dec_small_arg : (count : ℕ) (arg : ArgText) → Dec (IsSmallArg count arg)
 dec_small_arg count (Number value) = dec_within_limit value
 dec_small_arg count (Set set) = dec_both
     (dec_all (λ values. values.first ≤ values.last) (λ values. dec_le values.first values.last) set)
-    (dec_all (λ values. values.last < VALUES) (λ values. dec_lt values.last VALUES) set)
-dec_small_arg count (Numbers numbers) = dec_both (dec_all (IsWithin COEFFICIENT) dec_coefficient numbers) (dec_test _ (Decides-eqb (length numbers) count))
+    (dec_all (λ values. values.last < value_count) (λ values. dec_lt values.last value_count) set)
+dec_small_arg count (Numbers numbers) = dec_both (dec_all (IsWithin greatest_coefficient) dec_coefficient numbers) (dec_test _ (Decides-eqb (length numbers) count))
 
 -- what is decided and not refuted holds
 since : {A : Type 0} → Dec A → ((A → ⊥) → ⊥) → A
@@ -144,12 +146,12 @@ post_effect specs before post named fits ordered =
         args_are = args.1;
         scope = scope.0;
         names_are = record { declared = scope.1; rising = rising };
-        adds = record { room = since (dec_lt (length before.constraints) CONSTRAINTS) (λ many. fits (many_posts (le_since many))); added = refl };
+        adds = record { room = since (dec_lt (length before.constraints) most_constraints) (λ many. fits (many_posts (le_since many))); added = refl };
       },
     )
   where
-    le_since : (length before.constraints < CONSTRAINTS → ⊥) → CONSTRAINTS ≤ length before.constraints
-    le_since many = ⊎_elim (λ less. absurd (many less)) (λ le. le) (cases_lt (length before.constraints) CONSTRAINTS)
+    le_since : (length before.constraints < most_constraints → ⊥) → most_constraints ≤ length before.constraints
+    le_since many = ⊎_elim (λ less. absurd (many less)) (λ le. le) (cases_lt (length before.constraints) most_constraints)
 
 -- a post with a fault has no effect
 pub named_no_post : {specs : List Specification} {post : Post} {before after : PlainProblem} → PostNameFault specs before post → AddsPost specs post before after → ⊥
@@ -184,14 +186,14 @@ dec_post_name specs before post = by (spec_of specs post.spec) refl (dec_undecla
 
 pub dec_post_limit : (before : PlainProblem) (post : Post) → Dec (PostLimitFault before post)
 dec_post_limit before post = map_dec there back (dec_either
-    (dec_le CONSTRAINTS (length before.constraints))
+    (dec_le most_constraints (length before.constraints))
     (dec_any (λ arg. IsSmallArg (length post.names) arg → ⊥) (λ arg. dec_not (dec_small_arg (length post.names) arg)) post.args))
   where
-    there : (CONSTRAINTS ≤ length before.constraints) ⊎ Any (λ arg. IsSmallArg (length post.names) arg → ⊥) post.args → PostLimitFault before post
+    there : (most_constraints ≤ length before.constraints) ⊎ Any (λ arg. IsSmallArg (length post.names) arg → ⊥) post.args → PostLimitFault before post
     there (inl many) = many_posts many
     there (inr large) = large_arg large
 
-    back : PostLimitFault before post → (CONSTRAINTS ≤ length before.constraints) ⊎ Any (λ arg. IsSmallArg (length post.names) arg → ⊥) post.args
+    back : PostLimitFault before post → (most_constraints ≤ length before.constraints) ⊎ Any (λ arg. IsSmallArg (length post.names) arg → ⊥) post.args
     back (many_posts many) = inl many
     back (large_arg large) = inr large
 

@@ -4,14 +4,15 @@ use Rattle.std.specs.Prelude.{All, Any}
 use Rattle.std.proofs.lemmas.List.Elements.{All-nil, All-cons}
 use Rattle.std.proofs.lemmas.List.Quantifiers.{position-Some}
 use Rattle.hk_spec.specs.Specifications.{Specification, BoundSpecification, param_kinds}
-use Rattle.hk_model.specs.declared.limits.TheConstants.{CONSTRAINTS}
+use Rattle.hk_model.specs.Limits.{most_constraints}
 use Rattle.hk_model.specs.declared.problem.Constraint.TheVariants.{User}
-use Rattle.hk_model.specs.Posts.{Post, spec_of, FitKinds, IsSmallArg, AreArgsOf, PostNameFault, no_spec, other_args, no_variable, PostLimitFault, many_posts, large_arg, AddsPost}
-use Rattle.hk_model.specs.PostShapes.{HasNoFit}
+use Rattle.hk_lines.specs.Posts.{Post}
+use Rattle.hk_model.specs.Postings.{spec_of, FitKinds, IsSmallArg, AreArgsOf, PostNameFault, no_spec, other_args, no_variable, PostLimitFault, many_posts, large_arg, AddsPost}
+use Rattle.hk_model.specs.inside.PostFaults.{HasNoFit}
 use Rattle.hk_model.specs.Problems.{PlainProblem}
-use Rattle.hk_model.specs.Statements.{place_of, AreNamesOf}
+use Rattle.hk_model.specs.Declares.{place_of, AreNamesOf}
 use Rattle.hk_model.proofs.Effects.{no_places_of}
-use Rattle.hk_model.proofs.Elements.{each_not_some}
+use Rattle.hk_lines.proofs.Elements.{each_not_some}
 
 -- the place of a name is that of a variable
 pub places_within : (all names : List (List ℕ)) (scope : List ℕ) → map (place_of all) names ≡ map Some scope → All (λ place. place < length all) scope
@@ -42,18 +43,18 @@ named_post specs before post spec scope declared fit places (other_args is other
 named_post specs before post spec scope declared fit places (no_variable none) = no_places_of before.names post.names none scope places
 
 -- where there is no room or an argument is not small, there is a fault of a limit
-pub large_post : (before : PlainProblem) (post : Post) → (CONSTRAINTS ≤ length before.constraints) ⊎ Any (λ arg. IsSmallArg (length post.names) arg → ⊥) post.args → PostLimitFault before post
+pub large_post : (before : PlainProblem) (post : Post) → (most_constraints ≤ length before.constraints) ⊎ Any (λ arg. IsSmallArg (length post.names) arg → ⊥) post.args → PostLimitFault before post
 large_post before post (inl many) = many_posts many
 large_post before post (inr large) = large_arg large
 
 -- and where there is room and the arguments are small, there is none
-pub small_post : (before : PlainProblem) (post : Post) → length before.constraints < CONSTRAINTS → All (IsSmallArg (length post.names)) post.args → PostLimitFault before post → ⊥
+pub small_post : (before : PlainProblem) (post : Post) → length before.constraints < most_constraints → All (IsSmallArg (length post.names)) post.args → PostLimitFault before post → ⊥
 small_post before post room small (many_posts many) = omega (arith, room, many)
 small_post before post room small (large_arg large) = each_not_some (IsSmallArg (length post.names)) (λ arg. IsSmallArg (length post.names) arg → ⊥) (λ arg is none. none is) post.args small large
 
 -- the specification that is bound to the arguments is added on the scope
 pub posted : {specs : List Specification} {before after : PlainProblem} (post : Post) (spec : Specification) (bound : BoundSpecification) (scope : List ℕ) → spec_of specs post.spec ≡ Some spec → FitKinds (param_kinds spec) post.args
-    → length before.constraints < CONSTRAINTS → All (IsSmallArg (length post.names)) post.args → AreNamesOf post.names before scope
+    → length before.constraints < most_constraints → All (IsSmallArg (length post.names)) post.args → AreNamesOf post.names before scope
     → bound.spec ≡ spec → AreArgsOf post.args bound.args → bound.len ≡ length scope
     → after ≡ record before { constraints = before.constraints ++ User bound scope ∷ [] } → AddsPost specs post before after
 posted {before = before} post spec bound scope declared fit room small names_are spec_is args_are len_is added =

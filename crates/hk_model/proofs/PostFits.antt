@@ -7,16 +7,17 @@ use Rattle.std.proofs.lemmas.List.Elements.{All-nil, All-cons, All-head, All-tai
 use Rattle.hk_spec.specs.declared.arguments.Arg.{Arg}
 use Rattle.hk_spec.specs.declared.parts.Param.{Param}
 use Rattle.hk_spec.specs.declared.parts.ParamKind.{ParamKind}
-use Rattle.hk_model.specs.declared.limits.TheConstants.{VALUES}
-use Rattle.hk_model.specs.declared.phrases.Values.{Values as ReadValues}
-use Rattle.hk_model.specs.declared.posts.PostArg.{PostArg}
-use Rattle.hk_model.specs.declared.posts.PostArg.TheVariants as read
-use Rattle.hk_model.specs.Declarations.{values_of, plain_values}
-use Rattle.hk_model.specs.Phrases.{Values}
-use Rattle.hk_model.specs.Posts.{ArgText, FitKinds, IsSmallArg, IsArgOf, AreArgsOf}
-use Rattle.hk_model.specs.PostShapes.{plain_arg, args_of}
-use Rattle.hk_model.proofs.Decisions.{dec_not}
-use Rattle.hk_model.proofs.Elements.{dec_any, each_from_none}
+use Rattle.hk_model.specs.Limits.{value_count}
+use Rattle.hk_lines.specs.declared.phrases.Values.{Values as ReadValues}
+use Rattle.hk_lines.specs.declared.posts.PostArg.{PostArg}
+use Rattle.hk_lines.specs.declared.posts.PostArg.TheVariants as read
+use Rattle.hk_lines.specs.Plain.{values_of, plain_values}
+use Rattle.hk_lines.specs.Phrases.{Values}
+use Rattle.hk_lines.specs.Posts.{ArgText}
+use Rattle.hk_model.specs.Postings.{FitKinds, IsSmallArg, IsArgOf, AreArgsOf}
+use Rattle.hk_lines.specs.PostShapes.{plain_arg, args_of}
+use Rattle.hk_text.proofs.Deciding.{dec_not, dec_any}
+use Rattle.hk_lines.proofs.Elements.{each_from_none}
 use Rattle.hk_model.proofs.PostEffects.{dec_small_arg}
 use Rattle.hk_model.proofs.SumSizes.{scope_short}
 
@@ -34,20 +35,20 @@ module _ {X : Type 0} (p : X → Bool) (xs : List X) (i : ℕ) (x : X) (within :
 
 -- no range of a set is turned, and no value passes the limit
 abbrev pub AreSmallValues : List ReadValues → Type 0
-AreSmallValues set = All (λ values. (values.first ≤ values.last) × (values.last < VALUES)) set
+AreSmallValues set = All (λ values. (values.first ≤ values.last) × (values.last < value_count)) set
 
 -- the values of a set as they were read are small where the items are
-small_items : (set : List ReadValues) → AreSmallValues set → All (λ values. values.first ≤ values.last) (values_of set) × All (λ values. values.last < VALUES) (values_of set)
+small_items : (set : List ReadValues) → AreSmallValues set → All (λ values. values.first ≤ values.last) (values_of set) × All (λ values. values.last < value_count) (values_of set)
 small_items set all = (
-  All-map (λ (values : Values). values.first ≤ values.last) plain_values set (All-weaker (λ values. (values.first ≤ values.last) × (values.last < VALUES)) (λ values. values.first ≤ values.last) (λ values both. both.0) set all),
-  All-map (λ (values : Values). values.last < VALUES) plain_values set (All-weaker (λ values. (values.first ≤ values.last) × (values.last < VALUES)) (λ values. values.last < VALUES) (λ values both. both.1) set all),
+  All-map (λ (values : Values). values.first ≤ values.last) plain_values set (All-weaker (λ values. (values.first ≤ values.last) × (values.last < value_count)) (λ values. values.first ≤ values.last) (λ values both. both.0) set all),
+  All-map (λ (values : Values). values.last < value_count) plain_values set (All-weaker (λ values. (values.first ≤ values.last) × (values.last < value_count)) (λ values. values.last < value_count) (λ values both. both.1) set all),
 )
 
-items_small : (set : List ReadValues) → All (λ values. values.first ≤ values.last) (values_of set) → All (λ values. values.last < VALUES) (values_of set) → AreSmallValues set
-items_small [] ordered within = All-nil (λ values. (values.first ≤ values.last) × (values.last < VALUES))
-items_small (values ∷ set) ordered within = All-cons (λ values. (values.first ≤ values.last) × (values.last < VALUES)) values set
-    (All-head (λ values. values.first ≤ values.last) (plain_values values) (values_of set) ordered, All-head (λ values. values.last < VALUES) (plain_values values) (values_of set) within)
-    (items_small set (All-tail (λ values. values.first ≤ values.last) (plain_values values) (values_of set) ordered) (All-tail (λ values. values.last < VALUES) (plain_values values) (values_of set) within))
+items_small : (set : List ReadValues) → All (λ values. values.first ≤ values.last) (values_of set) → All (λ values. values.last < value_count) (values_of set) → AreSmallValues set
+items_small [] ordered within = All-nil (λ values. (values.first ≤ values.last) × (values.last < value_count))
+items_small (values ∷ set) ordered within = All-cons (λ values. (values.first ≤ values.last) × (values.last < value_count)) values set
+    (All-head (λ values. values.first ≤ values.last) (plain_values values) (values_of set) ordered, All-head (λ values. values.last < value_count) (plain_values values) (values_of set) within)
+    (items_small set (All-tail (λ values. values.first ≤ values.last) (plain_values values) (values_of set) ordered) (All-tail (λ values. values.last < value_count) (plain_values values) (values_of set) within))
 
 -- a set is a small argument where its values are small
 pub small_set_arg : (count : ℕ) (arg : PostArg) (set items : List ReadValues) (small : Bool) → arg ≡ read.Set set → items ≡ set → (IsTrue small ↔ AreSmallValues items) → IsTrue small ↔ IsSmallArg count (plain_arg arg)
@@ -71,9 +72,6 @@ small_at count args i d within all =
 -- one argument more of those that were tested
 args_take : (args : List PostArg) (i : ℕ) (d : PostArg) → i < length args → args_of (take (i + 1) args) ≡ args_of (take i args) ++ plain_arg (get_or args i d) ∷ []
 args_take args i d within = ap args_of (take_more args i d within) ∙ map-append plain_arg (take i args) (get_or args i d ∷ [])
-
-pub small_more : (count : ℕ) (args : List PostArg) (i : ℕ) (d : PostArg) → i < length args → All (IsSmallArg count) (args_of (take i args)) → IsSmallArg count (plain_arg (get_or args i d)) → All (IsSmallArg count) (args_of (take (i + 1) args))
-small_more count args i d within all small = subst (All (IsSmallArg count)) (sym (args_take args i d within)) (All-push (IsSmallArg count) (args_of (take i args)) (plain_arg (get_or args i d)) all small)
 
 -- arguments and one more, and those that they are
 args_push : (texts : List ArgText) (text : ArgText) (args : List Arg) (arg : Arg) → AreArgsOf texts args → IsArgOf text arg → AreArgsOf (texts ++ text ∷ []) (args ++ arg ∷ [])

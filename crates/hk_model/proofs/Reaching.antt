@@ -8,7 +8,7 @@ use Rattle.hk_model.specs.declared.refusal.ModelError.{ModelError}
 use Rattle.hk_model.specs.declared.refusal.RefusalKind.TheVariants.{Unfinished}
 use Rattle.hk_model.specs.Models.{Declared, nothing_declared, IsGoodLine, AreGoodLines, Spells, IsBadLine, IsFirstBadLine}
 use Rattle.hk_model.specs.Problems.{PlainProblem, IsValid}
-use Rattle.hk_model.specs.Faults.{IsLineFault, IsErrorAt}
+use Rattle.hk_model.specs.inside.Faults.{IsLineFault, IsErrorAt}
 use Rattle.hk_model.specs.Refused.{IsRefusal, refused_line, no_end, IsErrorOf}
 use Rattle.hk_model.proofs.GoodLines.{good_lines_more, good_lines_sound}
 use Rattle.hk_model.proofs.Validity.{IsValidSoFar}

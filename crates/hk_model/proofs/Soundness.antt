@@ -3,7 +3,7 @@ use Rattle.std.proofs.Common.{◌≡◌, ℕ, ◌<◌, Bool, true, false, cond, 
 use Rattle.std.specs.Prelude.{All, IfSome, IsTrue}
 use Rattle.std.proofs.lemmas.List.Elements.{All-nil, All-head, All-tail, All-push, All-weaker}
 use Rattle.hk_kinds.specs.Limits.{IsWithinLimit}
-use Rattle.hk_parse.specs.BlockLines.{Part}
+use Rattle.hk_parse.specs.BlockLines.{Part, whole_spec}
 use Rattle.hk_parse.specs.Blocks.{IsPart}
 use Rattle.hk_spec.specs.Arguments.{IsCoefficient, IsArgument, is_number, is_set, is_list, AreArguments, no_arguments, more_arguments}
 use Rattle.hk_spec.specs.Scopes.{is_good_cond}
@@ -12,10 +12,10 @@ use Rattle.hk_spec.specs.declared.arguments.Arg.{Arg}
 use Rattle.hk_spec.specs.declared.arguments.Arg.TheVariants as argument
 use Rattle.hk_spec.specs.declared.parts.ParamKind.{ParamKind}
 use Rattle.hk_spec.specs.declared.parts.ParamKind.TheVariants as param
-use Rattle.hk_model.specs.declared.limits.TheConstants.{COEFFICIENT}
+use Rattle.hk_model.specs.Limits.{greatest_coefficient}
 use Rattle.hk_model.specs.Models.{Declared, nothing_declared, IsGoodLine, good_empty, good_statement, good_post, good_opening, good_inside, good_end}
-use Rattle.hk_parse.specs.BlockLines.{whole_spec}
-use Rattle.hk_model.specs.Posts.{ArgText, Number, Set, Numbers, Post, SaysPost, FitsKind, FitKinds, IsSmallArg, IsArgOf, AreArgsOf, AddsPost}
+use Rattle.hk_lines.specs.Posts.{ArgText, Number, Set, Numbers, Post, SaysPost}
+use Rattle.hk_model.specs.Postings.{FitsKind, FitKinds, IsSmallArg, IsArgOf, AreArgsOf, AddsPost}
 use Rattle.hk_model.specs.Problems.{PlainProblem, IsWithin, IsScope, IsPosted, IsValid}
 use Rattle.hk_parse.proofs.PartRules.{begins_valid, good_after_valid, whole_valid, whole_no_best}
 use Rattle.hk_model.proofs.SumSizes.{scope_short}
@@ -55,7 +55,7 @@ argument_valid count param.List (Numbers numbers) (argument.Num n) fit small is 
 argument_valid count param.List (Numbers numbers) (argument.Set bits) fit small is = absurd is
 argument_valid count param.List (Numbers numbers) (argument.Nums ns) fit small is = is_list
     (ap length is ∙ small.1)
-    (subst (All IsCoefficient) (sym is) (All-weaker (IsWithin COEFFICIENT) IsCoefficient (λ n within. record { least = within.above; most = within.below }) numbers small.0))
+    (subst (All IsCoefficient) (sym is) (All-weaker (IsWithin greatest_coefficient) IsCoefficient (λ n within. record { least = within.above; most = within.below }) numbers small.0))
 
 -- and so are arguments
 arguments_valid : (count : ℕ) (kinds : List ParamKind) (texts : List ArgText) (args : List Arg) → FitKinds kinds texts → All (IsSmallArg count) texts → AreArgsOf texts args → AreArguments count kinds args

@@ -3,15 +3,17 @@ use Rattle.std.proofs.Common.{◌≡◌, ℕ, ◌<◌, ◌≤◌, ℤ, ◌⊎◌
 use Rattle.std.specs.Prelude.{Any}
 use Rattle.std.specs.List.Sorted.{IsStrictlyIncreasing}
 use Rattle.std.proofs.Math.Decide.{map_dec, dec_le, dec_lt}
-use Rattle.hk_model.specs.declared.limits.TheConstants.{VARIABLES, VALUES, NAME_BYTES, CONSTRAINTS, COEFFICIENT, LIM}
+use Rattle.hk_model.specs.Limits.{most_variables, value_count, most_name_bytes, most_constraints, greatest_coefficient}
+use Rattle.hk_base.specs.Limits.{number_limit}
 use Rattle.hk_model.specs.LineFaults.{IsNameFault, declared_twice, not_declared, second_objective, IsLimitFault, long_name, large_value, turned_range, no_value, many_variables, many_differ, many_totals, large_least, large_most, large_total_coef, large_coef, IsScopeFault, used_names}
-use Rattle.hk_model.specs.Phrases.{Values, Term}
+use Rattle.hk_lines.specs.Phrases.{Values, Term}
 use Rattle.hk_model.specs.Problems.{PlainProblem, IsWithin}
-use Rattle.hk_model.specs.Statements.{Statement, Header, Variable, Distinct, Total, Objective, MayStand, place_of, term_names, term_coefs}
-use Rattle.hk_model.proofs.Decisions.{dec_either, dec_true, dec_not, dec_rising}
+use Rattle.hk_lines.specs.Statements.{Statement, Header, Variable, Distinct, Total, Objective}
+use Rattle.hk_model.specs.Declares.{MayStand, place_of, term_names, term_coefs}
+use Rattle.hk_text.proofs.Deciding.{dec_either, dec_true, dec_not, dec_rising, dec_any}
 use Rattle.hk_model.proofs.Effects.{dec_coefficient, dec_within_limit, scope_of, no_places_of}
-use Rattle.hk_model.proofs.Elements.{any_nil, dec_any}
-use Rattle.hk_model.proofs.Grammar.{same_places}
+use Rattle.hk_lines.proofs.Elements.{any_nil}
+use Rattle.hk_model.proofs.OneEffect.{same_places}
 
 -- that an option is none
 pub dec_none : {A : Type 0} (o : Option A) → Dec (o ≡ None)
@@ -23,8 +25,8 @@ pub dec_undeclared : (declared names : List (List ℕ)) → Dec (Any (λ name. p
 dec_undeclared declared names = dec_any (λ name. place_of declared name ≡ None) (λ name. dec_none (place_of declared name)) names
 
 -- whether a coefficient is out of the limit
-dec_large_coef : (coefs : List ℤ) → Dec (Any (λ coef. IsWithin COEFFICIENT coef → ⊥) coefs)
-dec_large_coef coefs = dec_any (λ coef. IsWithin COEFFICIENT coef → ⊥) (λ coef. dec_not (dec_coefficient coef)) coefs
+dec_large_coef : (coefs : List ℤ) → Dec (Any (λ coef. IsWithin greatest_coefficient coef → ⊥) coefs)
+dec_large_coef coefs = dec_any (λ coef. IsWithin greatest_coefficient coef → ⊥) (λ coef. dec_not (dec_coefficient coef)) coefs
 
 -- whether a statement has a name fault
 pub dec_name_fault : (before : PlainProblem) (s : Statement) → Dec (IsNameFault before s)
@@ -58,19 +60,19 @@ dec_name_fault before (Objective terms) = map_dec there back (dec_either (dec_un
 -- whether a variable with a set that isn't empty has a limit fault
 dec_variable_limit : (before : PlainProblem) (name : List ℕ) (values : Values) (more : List Values) → Dec (IsLimitFault before (Variable name (values ∷ more)))
 dec_variable_limit before name values more = map_dec there back (dec_either
-    (dec_either (dec_lt NAME_BYTES (length name)) (dec_le VARIABLES (length before.names)))
-    (dec_either (dec_any (λ values. VALUES ≤ values.last) (λ values. dec_le VALUES values.last) set) (dec_any (λ values. values.last < values.first) (λ values. dec_lt values.last values.first) set)))
+    (dec_either (dec_lt most_name_bytes (length name)) (dec_le most_variables (length before.names)))
+    (dec_either (dec_any (λ values. value_count ≤ values.last) (λ values. dec_le value_count values.last) set) (dec_any (λ values. values.last < values.first) (λ values. dec_lt values.last values.first) set)))
   where
     set : List Values
     set = values ∷ more
 
-    there : ((NAME_BYTES < length name) ⊎ (VARIABLES ≤ length before.names)) ⊎ (Any (λ values. VALUES ≤ values.last) set ⊎ Any (λ values. values.last < values.first) set) → IsLimitFault before (Variable name set)
+    there : ((most_name_bytes < length name) ⊎ (most_variables ≤ length before.names)) ⊎ (Any (λ values. value_count ≤ values.last) set ⊎ Any (λ values. values.last < values.first) set) → IsLimitFault before (Variable name set)
     there (inl (inl long)) = long_name long
     there (inl (inr many)) = many_variables many
     there (inr (inl large)) = large_value large
     there (inr (inr turned)) = turned_range turned
 
-    back : IsLimitFault before (Variable name set) → ((NAME_BYTES < length name) ⊎ (VARIABLES ≤ length before.names)) ⊎ (Any (λ values. VALUES ≤ values.last) set ⊎ Any (λ values. values.last < values.first) set)
+    back : IsLimitFault before (Variable name set) → ((most_name_bytes < length name) ⊎ (most_variables ≤ length before.names)) ⊎ (Any (λ values. value_count ≤ values.last) set ⊎ Any (λ values. values.last < values.first) set)
     back (long_name long) = inl (inl long)
     back (many_variables many) = inl (inr many)
     back (large_value large) = inr (inl large)
@@ -79,16 +81,16 @@ dec_variable_limit before name values more = map_dec there back (dec_either
 -- whether a sum has a limit fault
 dec_total_limit : (before : PlainProblem) (terms : List Term) (least most : ℤ) → Dec (IsLimitFault before (Total terms least most))
 dec_total_limit before terms least most = map_dec there back (dec_either
-    (dec_either (dec_le CONSTRAINTS (length before.constraints)) (dec_large_coef (term_coefs terms)))
+    (dec_either (dec_le most_constraints (length before.constraints)) (dec_large_coef (term_coefs terms)))
     (dec_either (dec_not (dec_within_limit least)) (dec_not (dec_within_limit most))))
   where
-    there : ((CONSTRAINTS ≤ length before.constraints) ⊎ Any (λ coef. IsWithin COEFFICIENT coef → ⊥) (term_coefs terms)) ⊎ ((IsWithin LIM least → ⊥) ⊎ (IsWithin LIM most → ⊥)) → IsLimitFault before (Total terms least most)
+    there : ((most_constraints ≤ length before.constraints) ⊎ Any (λ coef. IsWithin greatest_coefficient coef → ⊥) (term_coefs terms)) ⊎ ((IsWithin number_limit least → ⊥) ⊎ (IsWithin number_limit most → ⊥)) → IsLimitFault before (Total terms least most)
     there (inl (inl many)) = many_totals many
     there (inl (inr large)) = large_total_coef large
     there (inr (inl large)) = large_least large
     there (inr (inr large)) = large_most large
 
-    back : IsLimitFault before (Total terms least most) → ((CONSTRAINTS ≤ length before.constraints) ⊎ Any (λ coef. IsWithin COEFFICIENT coef → ⊥) (term_coefs terms)) ⊎ ((IsWithin LIM least → ⊥) ⊎ (IsWithin LIM most → ⊥))
+    back : IsLimitFault before (Total terms least most) → ((most_constraints ≤ length before.constraints) ⊎ Any (λ coef. IsWithin greatest_coefficient coef → ⊥) (term_coefs terms)) ⊎ ((IsWithin number_limit least → ⊥) ⊎ (IsWithin number_limit most → ⊥))
     back (many_totals many) = inl (inl many)
     back (large_total_coef large) = inl (inr large)
     back (large_least large) = inr (inl large)
@@ -99,14 +101,14 @@ pub dec_limit_fault : (before : PlainProblem) (s : Statement) → Dec (IsLimitFa
 dec_limit_fault before Header = no (λ fault. elim fault [ ])
 dec_limit_fault before (Variable name []) = yes no_value
 dec_limit_fault before (Variable name (values ∷ more)) = dec_variable_limit before name values more
-dec_limit_fault before (Distinct names) = map_dec many_differ at (dec_le CONSTRAINTS (length before.constraints))
+dec_limit_fault before (Distinct names) = map_dec many_differ at (dec_le most_constraints (length before.constraints))
   where
-    at : IsLimitFault before (Distinct names) → CONSTRAINTS ≤ length before.constraints
+    at : IsLimitFault before (Distinct names) → most_constraints ≤ length before.constraints
     at (many_differ many) = many
 dec_limit_fault before (Total terms least most) = dec_total_limit before terms least most
 dec_limit_fault before (Objective terms) = map_dec large_coef at (dec_large_coef (term_coefs terms))
   where
-    at : IsLimitFault before (Objective terms) → Any (λ coef. IsWithin COEFFICIENT coef → ⊥) (term_coefs terms)
+    at : IsLimitFault before (Objective terms) → Any (λ coef. IsWithin greatest_coefficient coef → ⊥) (term_coefs terms)
     at (large_coef large) = large
 
 -- whether a statement has a scope fault

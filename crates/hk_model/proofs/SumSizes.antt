@@ -4,7 +4,7 @@ use Rattle.std.specs.Int.{w64}
 use Rattle.std.specs.List.Sorted.{IsStrictlyIncreasing}
 use Rattle.std.proofs.Math.IntN.{negsuc, pos-*ℤ-pos, negsuc-*ℤ-pos}
 use Rattle.std.proofs.lemmas.Int.{ints, to_z-of_z}
-use Rattle.hk_model.specs.declared.limits.TheConstants.{COEFFICIENT}
+use Rattle.hk_model.specs.Limits.{greatest_coefficient}
 use Rattle.hk_model.specs.Problems.{IsScope, IsWithin}
 
 -- a scope's variable at a place is no less than the place
@@ -33,7 +33,7 @@ pub HasRoom-nothing : (left : ℕ) → left ≤ 256 → HasRoom (pos 0) left
 HasRoom-nothing left few = record { above = omega (arith, ints); below = omega (arith, ints) }
 
 -- a coefficient times a value
-product_within : (coef : ℤ) (value : ℕ) → IsWithin COEFFICIENT coef → value < 128 → IsWithin (pos 127000000) (coef *ℤ pos value)
+product_within : (coef : ℤ) (value : ℕ) → IsWithin greatest_coefficient coef → value < 128 → IsWithin (pos 127000000) (coef *ℤ pos value)
 product_within (pos n) value within small =
     let size : n * value ≤ 1000000 * 127 = mul-le-mul {n₁ = n} {m₁ = value} {n₂ = 1000000} {m₂ = 127} (let below : pos n ≤ℤ pos 1000000 = within.below in omega (arith, ints)) (omega arith) in
     subst (IsWithin (pos 127000000)) (sym (pos-*ℤ-pos n value)) (record { above = omega (arith, ints); below = omega (arith, ints) })
@@ -65,7 +65,7 @@ pub record IsTurn (sum coef factor : ℤ) (value left : ℕ) : Type 0 where
   pub room : HasRoom (sum +ℤ coef *ℤ pos value) left
 
 -- each turn of a sum fits
-pub turn_fits : (sum coef factor : ℤ) (value left : ℕ) → HasRoom sum (suc left) → IsWithin COEFFICIENT coef → value < 128 → factor ≡ pos value → IsTurn sum coef factor value left
+pub turn_fits : (sum coef factor : ℤ) (value left : ℕ) → HasRoom sum (suc left) → IsWithin greatest_coefficient coef → value < 128 → factor ≡ pos value → IsTurn sum coef factor value left
 turn_fits sum coef factor value left room within small same = record {
   product_fits = subst (FitsSigned w64) (sym product_is) product_fits;
   sum_fits = subst (FitsSigned w64) (sym sum_is) sum_fits;

@@ -7,11 +7,13 @@ use Rattle.std.proofs.lemmas.List.Quantifiers.{position-Some}
 use Rattle.hk_model.specs.declared.problem.Constraint.{Constraint}
 use Rattle.hk_model.specs.declared.problem.Constraint.TheVariants.{AllDifferent, Sum, User}
 use Rattle.hk_model.specs.declared.linear.Linear.{Linear}
-use Rattle.hk_model.specs.declared.limits.TheConstants.{VARIABLES, NAME_BYTES, CONSTRAINTS, COEFFICIENT}
-use Rattle.hk_model.specs.Phrases.{Values, Term, TermsThen, last_term, more_term}
+use Rattle.hk_model.specs.Limits.{most_variables, most_name_bytes, most_constraints, greatest_coefficient}
+use Rattle.hk_lines.specs.Phrases.{Values, Term, TermsThen, last_term, more_term}
 use Rattle.hk_model.specs.Problems.{PlainProblem, IsScope, IsWithin, IsLinear, IsConstraint, IsDomain, IsValid}
-use Rattle.hk_model.specs.Statements.{Statement, Says, says_distinct, says_total, says_objective, place_of, IsSetOf, AddsVariable, AreNamesOf, AddsConstraint, AddsObjective, term_names, term_coefs, empty_problem, Declares, declares_header, declares_variable, declares_distinct, declares_total, declares_objective}
-use Rattle.hk_model.proofs.Elements.{any_first}
+use Rattle.hk_lines.specs.Statements.{Statement, Says, says_distinct, says_total, says_objective}
+use Rattle.hk_model.specs.Declares.{place_of, AddsVariable, AreNamesOf, AddsConstraint, AddsObjective, term_names, term_coefs, empty_problem, Declares, declares_header, declares_variable, declares_distinct, declares_total, declares_objective}
+use Rattle.hk_lines.specs.ValueSets.{IsSetOf}
+use Rattle.hk_lines.proofs.Elements.{any_first}
 
 -- what is declared so far is valid
 abbrev pub IsValidSoFar : Option PlainProblem → Type 0
@@ -66,8 +68,8 @@ items_domain (values ∷ more) domain some ordered is = record {
 variable_valid : {name : List ℕ} {set : List Values} {before after : PlainProblem} → AddsVariable name set before after → IsValid before → IsValid after
 variable_valid {name = name} {set = set} {before = before} adds valid = subst IsValid (sym adds.added) (record {
   named = length-append before.names (name ∷ []) ∙ ap (λ n. n + 1) valid.named ∙ sym (length-append before.domains (adds.domain ∷ []));
-  variables = subst (λ n. n ≤ VARIABLES) (sym longer) (omega (arith, adds.room));
-  names = All-push (λ text. length text ≤ NAME_BYTES) before.names name valid.names adds.short;
+  variables = subst (λ n. n ≤ most_variables) (sym longer) (omega (arith, adds.room));
+  names = All-push (λ text. length text ≤ most_name_bytes) before.names name valid.names adds.short;
   domains = All-push IsDomain before.domains adds.domain valid.domains (items_domain set adds.domain adds.some adds.ordered adds.is_set);
   few = valid.few;
   constraints = All-weaker (IsConstraint (length before.names)) (IsConstraint (length (before.names ++ name ∷ [])))
@@ -102,7 +104,7 @@ module _ {names : List (List ℕ)} {before : PlainProblem} {scope : List ℕ} (n
 
 -- the variables of terms, with their coefficients, are a sum
 named_linear : (terms : List Term) {before : PlainProblem} {scope : List ℕ} → 0 < length terms → AreNamesOf (term_names terms) before scope
-    → All (IsWithin COEFFICIENT) (term_coefs terms) → IsLinear (length before.names) scope (term_coefs terms)
+    → All (IsWithin greatest_coefficient) (term_coefs terms) → IsLinear (length before.names) scope (term_coefs terms)
 named_linear terms some named small = record {
   over = named_scope named (subst (λ n. 0 < n) (sym (length-map terms (λ term. term.name))) some);
   one_each = length-map terms (λ term. term.coef) ∙ sym (length-map terms (λ term. term.name)) ∙ as_many named;
@@ -116,7 +118,7 @@ constraint_valid {constraint = constraint} {before = before} is adds valid = sub
   variables = valid.variables;
   names = valid.names;
   domains = valid.domains;
-  few = subst (λ n. n ≤ CONSTRAINTS) (sym (length-append before.constraints (constraint ∷ []))) (omega (arith, adds.room));
+  few = subst (λ n. n ≤ most_constraints) (sym (length-append before.constraints (constraint ∷ []))) (omega (arith, adds.room));
   constraints = All-push (IsConstraint (length before.names)) before.constraints constraint valid.constraints is;
   objective = valid.objective;
 })

@@ -2,17 +2,19 @@
 use Rattle.std.specs.Prelude.{◌≡◌, ◌≢◌, ℕ, ◌<◌, ◌≤◌, ◌⊎◌, ℤ, List, [], length, map, Any, Option, None, Some, IsSome}
 use Rattle.std.specs.List.Sorted.{IsStrictlyIncreasing}
 use Rattle.hk_text.specs.Tokens.{IsBadByte, HasTexts}
-use Rattle.hk_model.specs.declared.limits.TheConstants.{VARIABLES, VALUES, NAME_BYTES, CONSTRAINTS, COEFFICIENT, LIM}
+use Rattle.hk_model.specs.Limits.{most_variables, value_count, most_name_bytes, most_constraints, greatest_coefficient, most_specifications}
+use Rattle.hk_base.specs.Limits.{number_limit}
 use Rattle.hk_model.specs.declared.refusal.RefusalKind.{RefusalKind}
 use Rattle.hk_model.specs.declared.refusal.RefusalKind.TheVariants.{Text, Later, Syntax, Name, Limit, Scope, Unfinished}
 use Rattle.hk_parse.specs.BlockLines.{Part, MayStand as MayStandIn, BeginNameFault, BeginLimitFault, LineNameFault, LineLimitFault}
 use Rattle.hk_parse.specs.LineTexts.{ParamText, LineText, Begin, SaysLine}
-use Rattle.hk_model.specs.declared.limits.TheConstants.{SPECIFICATIONS}
 use Rattle.hk_model.specs.Models.{Declared, IsLaterLine}
-use Rattle.hk_model.specs.Posts.{Post, SaysPost, PostNameFault, PostLimitFault, PostScopeFault, spec_of}
-use Rattle.hk_model.specs.Phrases.{Values, Term}
+use Rattle.hk_lines.specs.Posts.{Post, SaysPost}
+use Rattle.hk_model.specs.Postings.{PostNameFault, PostLimitFault, PostScopeFault, spec_of}
+use Rattle.hk_lines.specs.Phrases.{Values, Term}
 use Rattle.hk_model.specs.Problems.{PlainProblem, IsWithin}
-use Rattle.hk_model.specs.Statements.{Statement, Header, Variable, Distinct, Total, Objective, Says, MayStand, place_of, term_names, term_coefs}
+use Rattle.hk_lines.specs.Statements.{Statement, Header, Variable, Distinct, Total, Objective, Says}
+use Rattle.hk_model.specs.Declares.{MayStand, place_of, term_names, term_coefs}
 
 -- the names of variables that a statement uses
 abbrev pub used_names : Statement → List (List ℕ)
@@ -30,17 +32,17 @@ pub data IsNameFault (before : PlainProblem) : Statement → Type 0 where
 
 -- a quantity passes its limit, a range is turned, or a set has no value
 pub data IsLimitFault (before : PlainProblem) : Statement → Type 0 where
-  long_name : {name : List ℕ} {set : List Values} → NAME_BYTES < length name → IsLimitFault before (Variable name set)
-  large_value : {name : List ℕ} {set : List Values} → Any (λ values. VALUES ≤ values.last) set → IsLimitFault before (Variable name set)
+  long_name : {name : List ℕ} {set : List Values} → most_name_bytes < length name → IsLimitFault before (Variable name set)
+  large_value : {name : List ℕ} {set : List Values} → Any (λ values. value_count ≤ values.last) set → IsLimitFault before (Variable name set)
   turned_range : {name : List ℕ} {set : List Values} → Any (λ values. values.last < values.first) set → IsLimitFault before (Variable name set)
   no_value : {name : List ℕ} → IsLimitFault before (Variable name [])
-  many_variables : {name : List ℕ} {set : List Values} → VARIABLES ≤ length before.names → IsLimitFault before (Variable name set)
-  many_differ : {names : List (List ℕ)} → CONSTRAINTS ≤ length before.constraints → IsLimitFault before (Distinct names)
-  many_totals : {terms : List Term} {least most : ℤ} → CONSTRAINTS ≤ length before.constraints → IsLimitFault before (Total terms least most)
-  large_least : {terms : List Term} {least most : ℤ} → (IsWithin LIM least → ⊥) → IsLimitFault before (Total terms least most)
-  large_most : {terms : List Term} {least most : ℤ} → (IsWithin LIM most → ⊥) → IsLimitFault before (Total terms least most)
-  large_total_coef : {terms : List Term} {least most : ℤ} → Any (λ coef. IsWithin COEFFICIENT coef → ⊥) (term_coefs terms) → IsLimitFault before (Total terms least most)
-  large_coef : {terms : List Term} → Any (λ coef. IsWithin COEFFICIENT coef → ⊥) (term_coefs terms) → IsLimitFault before (Objective terms)
+  many_variables : {name : List ℕ} {set : List Values} → most_variables ≤ length before.names → IsLimitFault before (Variable name set)
+  many_differ : {names : List (List ℕ)} → most_constraints ≤ length before.constraints → IsLimitFault before (Distinct names)
+  many_totals : {terms : List Term} {least most : ℤ} → most_constraints ≤ length before.constraints → IsLimitFault before (Total terms least most)
+  large_least : {terms : List Term} {least most : ℤ} → (IsWithin number_limit least → ⊥) → IsLimitFault before (Total terms least most)
+  large_most : {terms : List Term} {least most : ℤ} → (IsWithin number_limit most → ⊥) → IsLimitFault before (Total terms least most)
+  large_total_coef : {terms : List Term} {least most : ℤ} → Any (λ coef. IsWithin greatest_coefficient coef → ⊥) (term_coefs terms) → IsLimitFault before (Total terms least most)
+  large_coef : {terms : List Term} → Any (λ coef. IsWithin greatest_coefficient coef → ⊥) (term_coefs terms) → IsLimitFault before (Objective terms)
 
 -- the variables that a statement uses don't stand strictly in the order of their declaration
 pub record IsScopeFault (before : PlainProblem) (statement : Statement) : Type 0 where
@@ -75,7 +77,7 @@ pub data IsLimitFaultOf (before : Declared) (problem : PlainProblem) (texts : Li
   limit_of_statement : {statement : Statement} → before.block ≡ None → Says texts statement → IsLimitFault problem statement → IsLimitFaultOf before problem texts
   limit_of_post : {post : Post} → before.block ≡ None → SaysPost texts post → PostLimitFault problem post → IsLimitFaultOf before problem texts
   limit_of_opening : {name : List ℕ} {params : List ParamText} → before.block ≡ None → SaysLine texts (Begin name params)
-      → (SPECIFICATIONS ≤ length before.specs) ⊎ BeginLimitFault name params → IsLimitFaultOf before problem texts
+      → (most_specifications ≤ length before.specs) ⊎ BeginLimitFault name params → IsLimitFaultOf before problem texts
   limit_inside : {part : Part} {text : LineText} → before.block ≡ Some part → SaysLine texts text → MayStandIn part text → LineLimitFault part text → IsLimitFaultOf before problem texts
 
 -- the variables of a scope don't stand strictly in the order of their declaration

@@ -1,17 +1,18 @@
 -- Which problem the bytes of a model spell, and which of its lines is the first bad one.
-use Rattle.std.specs.Prelude.{◌≡◌, ℕ, ◌+◌, ◌<◌, List, [], ◌∷◌, ◌++◌, length, Option, None, Some, Contains, codes}
-use Rattle.hk_text.specs.declared.tokenizer.Token.{Token}
+use Rattle.std.specs.Prelude.{◌≡◌, ℕ, ◌+◌, ◌<◌, List, [], ◌∷◌, ◌++◌, length, Option, None, Some, Contains}
 use Rattle.hk_text.specs.Lines.{lines}
-use Rattle.hk_text.specs.Texts.{texts_of}
-use Rattle.hk_text.specs.Tokens.{AreTokensOf, HasTexts}
+use Rattle.hk_text.specs.Tokens.{HasTexts}
 use Rattle.hk_parse.specs.BlockLines.{Part, MayStand as MayStandIn, Begins, IsGoodAfter, whole_spec}
 use Rattle.hk_parse.specs.LineTexts.{ParamText, LineText, Begin, End, SaysLine}
 use Rattle.hk_spec.specs.declared.expressions.Cond.{Cond}
 use Rattle.hk_spec.specs.Specifications.{Specification}
-use Rattle.hk_model.specs.declared.limits.TheConstants.{SPECIFICATIONS}
-use Rattle.hk_model.specs.Posts.{Post, SaysPost, AddsPost, spec_of}
+use Rattle.hk_model.specs.Limits.{most_specifications}
+use Rattle.hk_lines.specs.Posts.{Post, SaysPost}
+use Rattle.hk_model.specs.Postings.{AddsPost, spec_of}
 use Rattle.hk_model.specs.Problems.{PlainProblem}
-use Rattle.hk_model.specs.Statements.{Statement, Says, Declares}
+use Rattle.hk_lines.specs.Statements.{Statement, Says}
+use Rattle.hk_model.specs.Declares.{Declares}
+use Rattle.hk_lines.specs.Later.{later_words}
 
 -- what the lines so far declare: the problem, None before the header; the specifications; and the part of a specification that isn't ended
 pub record Declared : Type 0 where
@@ -26,7 +27,7 @@ nothing_declared = record { problem = None; specs = []; block = None }
 -- a specification is opened: its name is no other specification's, there is room for it, and this is its first line
 pub record Opens (specs : List Specification) (name : List ℕ) (params : List ParamText) (part : Part) : Type 0 where
   pub new : spec_of specs name ≡ None
-  pub room : length specs < SPECIFICATIONS
+  pub room : length specs < most_specifications
   pub begins : Begins name params part
 
 -- a good line: one without tokens, which has no effect; outside of a specification one that says a statement which may stand there, a post, or the first line of a specification; in a specification one of its lines, or its end
@@ -64,10 +65,6 @@ pub record Spells (bytes : List ℕ) (problem : PlainProblem) : Type 0 where
 -- a bad line, by what was declared before it: nothing makes it good
 abbrev pub IsBadLine : Declared → List ℕ → Type 0
 IsBadLine before line = (after : Declared) → IsGoodLine before line after → ⊥
-
--- the words that begin statements which aren't read yet
-abbrev pub later_words : List (List ℕ)
-later_words = codes "among" ∷ codes "sequence" ∷ codes "gcc" ∷ codes "group" ∷ []
 
 -- a line after the header and outside of a specification, all of its bytes in tokens, that begins with the word of a statement which isn't read yet
 pub record IsLaterLine (before : Declared) (line : List ℕ) : Type 0 where

@@ -1,3 +1,4 @@
+-- Problems, and when one is valid.
 use Rattle.std.specs.Prelude.{◌≡◌, ℕ, ◌<◌, ◌≤◌, ◌^◌, ℤ, neg_ℤ, ◌≤ℤ◌, List, length, All, Option, IfSome, IsTrue, false}
 use Rattle.std.specs.List.Sorted.{IsStrictlyIncreasing}
 use Rattle.hk_base.specs.Sets.{Has}
@@ -6,7 +7,8 @@ use Rattle.hk_spec.specs.Specifications.{BoundSpecification, IsBound, test_scope
 use Rattle.hk_model.specs.declared.problem.Constraint.{Constraint}
 use Rattle.hk_model.specs.declared.problem.Constraint.TheVariants.{AllDifferent, Sum, User}
 use Rattle.hk_model.specs.declared.linear.Linear.{Linear}
-use Rattle.hk_model.specs.declared.limits.TheConstants.{VARIABLES, VALUES, NAME_BYTES, CONSTRAINTS, COEFFICIENT, LIM}
+use Rattle.hk_model.specs.Limits.{most_variables, value_count, most_name_bytes, most_constraints, greatest_coefficient}
+use Rattle.hk_base.specs.Limits.{number_limit}
 
 -- a problem: for each variable its name and its set of values, the constraints, and the objective, where there is one
 pub record PlainProblem : Type 0 where
@@ -30,7 +32,7 @@ pub record IsWithin (size n : ℤ) : Type 0 where
 pub record IsLinear (variables : ℕ) (scope : List ℕ) (coefs : List ℤ) : Type 0 where
   pub over : IsScope variables scope
   pub one_each : length coefs ≡ length scope
-  pub small : All (IsWithin COEFFICIENT) coefs
+  pub small : All (IsWithin greatest_coefficient) coefs
 
 -- the specification with its arguments is for scopes of that many variables, and its test doesn't use the bound on the cost
 pub record IsPosted (bound : BoundSpecification) (count : ℕ) : Type 0 where
@@ -41,21 +43,21 @@ pub record IsPosted (bound : BoundSpecification) (count : ℕ) : Type 0 where
 -- the constraint's scope is one of that many variables; the bounds of a sum are at most 1,000,000,000,000 in size; a specification is one for such a scope
 abbrev pub IsConstraint : ℕ → Constraint → Type 0
 IsConstraint variables (AllDifferent scope) = IsScope variables scope
-IsConstraint variables (Sum scope coefs least most) = IsLinear variables scope coefs × IsWithin LIM least × IsWithin LIM most
+IsConstraint variables (Sum scope coefs least most) = IsLinear variables scope coefs × IsWithin number_limit least × IsWithin number_limit most
 IsConstraint variables (User bound scope) = IsScope variables scope × IsPosted bound (length scope)
 
 -- the set has a value, and only values from 0 to 127
 pub record IsDomain (domain : ℕ) : Type 0 where
-  pub small : domain < 2 ^ VALUES
+  pub small : domain < 2 ^ value_count
   pub least : ℕ
   pub some : Has domain least
 
 -- the problem is within the limits, and its constraints and its objective are about its variables
 pub record IsValid (p : PlainProblem) : Type 0 where
   pub named : length p.names ≡ length p.domains
-  pub variables : length p.names ≤ VARIABLES
-  pub names : All (λ name. length name ≤ NAME_BYTES) p.names
+  pub variables : length p.names ≤ most_variables
+  pub names : All (λ name. length name ≤ most_name_bytes) p.names
   pub domains : All IsDomain p.domains
-  pub few : length p.constraints ≤ CONSTRAINTS
+  pub few : length p.constraints ≤ most_constraints
   pub constraints : All (IsConstraint (length p.names)) p.constraints
   pub objective : IfSome p.objective (λ linear. IsLinear (length p.names) linear.scope linear.coefs)

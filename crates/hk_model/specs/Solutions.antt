@@ -1,3 +1,4 @@
+-- The solutions of a problem, what they cost, and which is the answer.
 use Rattle.std.specs.Prelude.{◌≡◌, ◌≢◌, ℕ, ℤ, pos, ◌<◌, ◌+ℤ◌, ◌*ℤ◌, ◌≤ℤ◌, List, [], ◌∷◌, ◌⊎◌, length, map, slice_index, All, AllPairs, Option, None, Some}
 use Rattle.hk_base.specs.Sets.{Has}
 use Rattle.hk_model.specs.declared.problem.Constraint.{Constraint}

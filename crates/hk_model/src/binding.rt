@@ -1,10 +1,10 @@
 //! What a post declares, after the lines before it.
 
 ghost use Rattle.std.specs.Prelude.{◌≡◌, ◌≤◌, ◌<◌, ◌↔◌, ◌⊎◌, ℕ, All, Any, false, length, map, None, Some, IsNone, IsTrue, OnOk, IfOk, IfErr, IfSome};
-ghost use Rattle.hk_model.specs.declared.limits.TheConstants.{CONSTRAINTS, VALUES, COEFFICIENT};
-ghost use Rattle.hk_model.specs.Declarations.{values_of};
-ghost use Rattle.hk_model.specs.Posts.{AddsPost, FitsKind, FitKinds, IsSmallArg, IsArgOf, AreArgsOf, spec_of};
-ghost use Rattle.hk_model.specs.PostShapes.{HasNoFit, IsPostFault, args_of, plain_arg, plain_post};
+ghost use Rattle.hk_model.specs.Limits.{most_constraints, value_count, greatest_coefficient};
+ghost use Rattle.hk_model.specs.Postings.{AddsPost, FitsKind, FitKinds, IsSmallArg, IsArgOf, AreArgsOf, spec_of};
+ghost use Rattle.hk_model.specs.inside.PostFaults.{HasNoFit, IsPostFault};
+ghost use Rattle.hk_lines.specs.PostShapes.{args_of, plain_arg, plain_post};
 ghost use Rattle.hk_model.specs.Problems.{IsWithin};
 ghost use Rattle.hk_spec.specs.Specifications.{param_kinds};
 
@@ -12,13 +12,11 @@ use crate::declaring::is_within_limit;
 use crate::draft::Draft;
 use crate::faults::LineFault;
 use crate::limits::{COEFFICIENT, CONSTRAINTS, VALUES};
-use crate::phrases::Values;
-use crate::posts::{PostArg, PostShape};
 use crate::problem::Constraint;
 use crate::refusal::RefusalKind;
 use crate::scopes::{is_rising, places_of};
-use crate::sets::set_of_values;
 use hk_base::List;
+use hk_lines::{PostArg, PostShape, Values, set_of_values};
 use hk_spec::{Arg, Bound, Param, ParamKind, Spec};
 use std::alloc::{AllocError, Global};
 
@@ -124,8 +122,8 @@ fn fits_kind(kind: ParamKind, arg: &PostArg) -> bool
 /// Whether there is no room for a post, or one of its arguments passes a limit, on a scope of so
 /// many variables.
 fn post_passes_limit(draft: &Draft, args: &[PostArg], count: usize) -> bool
-    ensures passes { IsTrue result → (CONSTRAINTS ≤ length draft.now.constraints) ⊎ Any (λ arg. IsSmallArg count arg → ⊥) (args_of args.now) }
-    ensures room { result ≡ false → length draft.now.constraints < CONSTRAINTS }
+    ensures passes { IsTrue result → (most_constraints ≤ length draft.now.constraints) ⊎ Any (λ arg. IsSmallArg count arg → ⊥) (args_of args.now) }
+    ensures room { result ≡ false → length draft.now.constraints < most_constraints }
     ensures small { result ≡ false → All (IsSmallArg count) (args_of args.now) }
 {
     if draft.constraint_count() >= CONSTRAINTS {
@@ -161,14 +159,14 @@ fn is_small_arg(arg: &PostArg, count: usize) -> bool
 
 /// Whether no range is turned, and no value passes the limit.
 fn is_small_set(set: &[Values]) -> bool
-    ensures { IsTrue result ↔ All (λ values. (values.first ≤ values.last) × (values.last < VALUES)) set.now }
+    ensures { IsTrue result ↔ All (λ values. (values.first ≤ values.last) × (values.last < value_count)) set.now }
 {
     set.iter().all(|values| values.first <= values.last && values.last < u64::from(VALUES))
 }
 
 /// Whether each number is at most as great as a coefficient.
 fn are_small_numbers(numbers: &[i64]) -> bool
-    ensures { IsTrue result ↔ All (IsWithin COEFFICIENT) numbers.now }
+    ensures { IsTrue result ↔ All (IsWithin greatest_coefficient) numbers.now }
 {
     numbers
         .iter()

@@ -1,23 +1,24 @@
 //! What a line declares, after the lines before it.
 
 ghost use Rattle.std.specs.Prelude.{◌≡◌, All, ◌↔◌, false, map, None, Some, IsTrue, OnOk, IfErr};
-ghost use Rattle.hk_model.specs.declared.limits.TheConstants.{LIM};
-ghost use Rattle.hk_model.specs.Declarations.{values_of, terms_of, statement_of, AddsDistinct, AddsTotal, AddsLeast, FitsVariable, FitsTotal};
-ghost use Rattle.hk_model.specs.Faults.{IsStatementFault};
+ghost use Rattle.hk_base.specs.Limits.{number_limit};
+ghost use Rattle.hk_lines.specs.Plain.{values_of, terms_of, statement_of};
+ghost use Rattle.hk_model.specs.inside.Fits.{AddsDistinct, AddsTotal, AddsLeast, FitsVariable, FitsTotal};
+ghost use Rattle.hk_model.specs.inside.Faults.{IsStatementFault};
 ghost use Rattle.hk_model.specs.LineFaults.{IsLimitFault};
 ghost use Rattle.hk_model.specs.Problems.{IsWithin};
-ghost use Rattle.hk_model.specs.Statements.{Header, Variable, Distinct, Total, Objective, Declares, AddsVariable, empty_problem};
+ghost use Rattle.hk_lines.specs.Statements.{Header, Variable, Distinct, Total, Objective};
+ghost use Rattle.hk_model.specs.Declares.{Declares, AddsVariable, empty_problem};
+ghost use Rattle.hk_model.specs.Limits.{greatest_coefficient};
 
 use crate::draft::Draft;
 use crate::faults::LineFault;
 use crate::limits::{COEFFICIENT, CONSTRAINTS, LIM, NAME_BYTES, VALUES, VARIABLES};
 use crate::linear::Linear;
-use crate::phrases::{Term, Values};
 use crate::problem::Constraint;
 use crate::refusal::RefusalKind;
 use crate::scopes::{coefs_of, is_rising, places_of, term_places};
-use crate::sets::set_of_values;
-use crate::shapes::Shape;
+use hk_lines::{Shape, Term, Values, set_of_values};
 use std::alloc::Global;
 
 /// Declares what a line of this shape says, after what was declared before it: None before the
@@ -165,7 +166,7 @@ fn total_passes_limit(draft: &Draft, terms: &[Term<'_>], least: i64, most: i64) 
 
 /// Whether a bound is within the limit.
 pub fn is_within_limit(number: i64) -> bool
-    ensures { IsTrue result ↔ IsWithin LIM number }
+    ensures { IsTrue result ↔ IsWithin number_limit number }
 {
     -LIM <= number && number <= LIM
 }
@@ -192,7 +193,7 @@ fn declare_objective(alloc: Global, draft: &mut Draft, terms: &[Term<'_>]) -> Re
 
 /// Whether each coefficient is within the limit.
 fn are_coefficients(terms: &[Term<'_>]) -> bool
-    ensures { IsTrue result ↔ All (λ term. IsWithin COEFFICIENT term.coef) terms.now }
+    ensures { IsTrue result ↔ All (λ term. IsWithin greatest_coefficient term.coef) terms.now }
 {
     terms.iter().all(|term| -COEFFICIENT <= term.coef && term.coef <= COEFFICIENT)
 }

@@ -1,7 +1,10 @@
+//! A problem that grows line by line.
+
 ghost use Rattle.std.specs.Prelude.{◌≡◌, ◌<◌, ◌↔◌, ◌∷◌, ◌++◌, [], length, All, None, Some, IsSome, IsTrue, OnOk, IfOk};
 ghost use Rattle.std.specs.List.Sorted.{IsStrictlyIncreasing};
 ghost use Rattle.hk_model.specs.Problems.{IsValid};
-ghost use Rattle.hk_model.specs.Statements.{place_of, empty_problem};
+ghost use Rattle.hk_model.specs.Declares.{place_of, empty_problem};
+ghost use Rattle.hk_model.specs.Limits.{most_variables};
 
 use crate::limits::VARIABLES;
 use crate::linear::Linear;
@@ -25,7 +28,7 @@ impl Model for Draft {
     ghost use Rattle.std.specs.Coded.{codes};
     ghost use Rattle.hk_spec.specs.contracts.bindings.Bound as bound;
     ghost use Rattle.indexmap.specs.IndexMap.{keys, values, index_map_len};
-    ghost use Rattle.hk_model.specs.declared.limits.TheConstants.{VARIABLES};
+    ghost use Rattle.hk_model.specs.Limits.{most_variables};
     ghost use Rattle.hk_model.specs.Problems.{PlainProblem};
 
     ghost Value = { PlainProblem };
@@ -39,7 +42,7 @@ impl Model for Draft {
       objective = d.objective;
     } };
 
-    ghost invariant = { λ d. index_map_len d.variables ≤ VARIABLES };
+    ghost invariant = { λ d. index_map_len d.variables ≤ most_variables };
 }
 
 impl Draft {
@@ -96,7 +99,7 @@ impl Draft {
         domain: u128,
     ) -> Result<(), AllocError>
         requires new { place_of self.old.names name.now ≡ None }
-        requires room { length self.old.names < VARIABLES }
+        requires room { length self.old.names < most_variables }
         ensures { OnOk result (self.new ≡ record self.old {
           names = self.old.names ++ name.now ∷ [];
           domains = self.old.domains ++ domain ∷ [];

@@ -1,4 +1,6 @@
-ghost use Rattle.hk_model.specs.Faults.{IsErrorAt};
+//! Why the reader stops at a line.
+
+ghost use Rattle.hk_model.specs.inside.Faults.{IsErrorAt};
 
 use crate::refusal::{ModelError, Refusal, RefusalKind};
 

@@ -1,6 +1,9 @@
+//! Whether values make the constraints hold, and what they cost.
+
 ghost use Rattle.std.specs.Prelude.{◌≡◌, ◌≢◌, ◌<◌, ◌≤◌, ◌↔◌, length, All, AllPairs, IfOk, IfSome, IsSome, IsTrue};
 ghost use Rattle.hk_model.specs.Problems.{IsConstraint};
 ghost use Rattle.hk_model.specs.Solutions.{scope_values, Holds, cost_of};
+ghost use Rattle.hk_model.specs.Limits.{most_variables, value_count};
 
 use crate::limits::{VALUES, VARIABLES};
 use crate::linear::{cost_by, linear_value};
@@ -14,7 +17,7 @@ use std::alloc::{AllocError, Global};
 /// specification's states take.
 pub fn judge(alloc: Global, problem: &Problem, values: &[u8]) -> Result<Option<i64>, AllocError>
     requires one_each { length values.now ≡ length problem.now.domains }
-    requires small { All (λ value. value < VALUES) values.now }
+    requires small { All (λ value. value < value_count) values.now }
     ensures holds { IfOk result (λ cost. IsSome cost ↔ All (Holds values.now) problem.now.constraints) }
     ensures cost { IfOk result (λ found. IfSome found (λ cost. cost ≡ cost_of problem.now values.now)) }
 {
@@ -28,8 +31,8 @@ pub fn judge(alloc: Global, problem: &Problem, values: &[u8]) -> Result<Option<i
 
 fn holds(alloc: Global, constraint: &Constraint, values: &[u8]) -> Result<bool, AllocError>
     requires scope { IsConstraint (length values.now) constraint.now }
-    requires few { length values.now ≤ VARIABLES }
-    requires small { All (λ value. value < VALUES) values.now }
+    requires few { length values.now ≤ most_variables }
+    requires small { All (λ value. value < value_count) values.now }
     ensures { IfOk result (λ found. IsTrue found ↔ Holds values.now constraint.now) }
 {
     match constraint {
@@ -64,7 +67,7 @@ fn values_of(alloc: Global, scope: &[u16], values: &[u8]) -> Result<Bytes, Alloc
 
 fn are_different(scope: &[u16], values: &[u8]) -> bool
     requires declared { All (λ variable. variable < length values.now) scope.now }
-    requires small { All (λ value. value < VALUES) values.now }
+    requires small { All (λ value. value < value_count) values.now }
     ensures { IsTrue result ↔ AllPairs (λ x y. x ≢ y) (scope_values scope.now values.now) }
 {
     let mut seen = 0u128;

@@ -1,3 +1,5 @@
+//! Laws of the definitions: a text has one outcome, and spells a valid problem.
+
 ghost use Rattle.std.specs.Prelude.{◌≡◌, ◌⊎◌, ℕ, List};
 ghost use Rattle.hk_model.specs.declared.refusal.RefusalKind.{RefusalKind};
 ghost use Rattle.hk_model.specs.Problems.{PlainProblem, IsValid};

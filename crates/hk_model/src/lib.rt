@@ -15,17 +15,10 @@ mod declaring;
 mod draft;
 mod faults;
 mod judging;
-mod later;
 mod laws;
 pub mod limits;
 mod linear;
-mod phrases;
-mod posts;
 mod problem;
 mod reading;
 mod refusal;
 mod scopes;
-mod sets;
-mod shapes;
-#[cfg(test)]
-mod tests;

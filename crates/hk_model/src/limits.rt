@@ -1,5 +1,7 @@
 //! How much a model may hold.
 
+pub use hk_base::LIM;
+
 /// How many variables a problem has at most.
 pub const VARIABLES: usize = 256;
 
@@ -17,6 +19,3 @@ pub const SPECIFICATIONS: usize = 64;
 
 /// How great a coefficient is at most in size.
 pub const COEFFICIENT: i64 = 1_000_000;
-
-/// How great a bound of a sum is at most in size.
-pub const LIM: i64 = 1_000_000_000_000;

@@ -1,6 +1,9 @@
+//! Sums of variables with coefficients.
+
 ghost use Rattle.std.specs.Prelude.{◌≡◌, ◌<◌, ◌≤◌, length, All, IfSome};
 ghost use Rattle.hk_model.specs.Problems.{IsLinear};
 ghost use Rattle.hk_model.specs.Solutions.{linear_value, cost_by};
+ghost use Rattle.hk_model.specs.Limits.{most_variables, value_count};
 
 use crate::limits::{VALUES, VARIABLES};
 use hk_base::List;
@@ -16,8 +19,8 @@ pub struct Linear {
 /// What the values cost by this objective: 0 where there is none.
 pub fn cost_by(objective: &Option<Linear>, values: &[u8]) -> i64
     requires linear { IfSome objective.now (λ linear. IsLinear (length values.now) linear.scope linear.coefs) }
-    requires few { length values.now ≤ VARIABLES }
-    requires small { All (λ value. value < VALUES) values.now }
+    requires few { length values.now ≤ most_variables }
+    requires small { All (λ value. value < value_count) values.now }
     ensures { result ≡ cost_by objective.now values.now }
 {
     match objective {
@@ -30,8 +33,8 @@ pub fn cost_by(objective: &Option<Linear>, values: &[u8]) -> i64
 /// in size: no more than 256 products of a coefficient and a value of at most 127.
 pub fn linear_value(scope: &[u16], coefs: &[i64], values: &[u8]) -> i64
     requires linear { IsLinear (length values.now) scope.now coefs.now }
-    requires few { length values.now ≤ VARIABLES }
-    requires small { All (λ value. value < VALUES) values.now }
+    requires few { length values.now ≤ most_variables }
+    requires small { All (λ value. value < value_count) values.now }
     ensures { result ≡ linear_value scope.now coefs.now values.now }
 {
     let mut sum = 0;

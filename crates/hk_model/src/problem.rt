@@ -1,3 +1,5 @@
+//! Problems: variables, constraints and the objective.
+
 ghost use Rattle.std.specs.Prelude.{◌≡◌};
 ghost use Rattle.hk_model.specs.Problems.{IsValid};
 

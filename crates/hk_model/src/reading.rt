@@ -1,5 +1,7 @@
+//! The lines of a model, one after the other, to the last or the first bad one.
+
 ghost use Rattle.std.specs.Prelude.{◌≤◌, length, OnOk, IfOk, IfErr};
-ghost use Rattle.hk_model.specs.Faults.{IsLineFault};
+ghost use Rattle.hk_model.specs.inside.Faults.{IsLineFault};
 ghost use Rattle.hk_model.specs.Models.{IsGoodLine, Spells};
 ghost use Rattle.hk_model.specs.Refused.{IsErrorOf};
 

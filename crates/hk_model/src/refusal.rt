@@ -1,3 +1,5 @@
+//! Refusals: the line and the kind of its first fault.
+
 use thiserror::Error;
 
 /// Why a line of a model is refused. Where a line has faults of several kinds, the first of these

@@ -2,15 +2,16 @@
 
 ghost use Rattle.std.specs.Prelude.{◌≡◌, ◌↔◌, map, IfOk, IfErr, IsTrue};
 ghost use Rattle.std.specs.List.Sorted.{IsStrictlyIncreasing};
-ghost use Rattle.hk_model.specs.Declarations.{ArePlacesOf, terms_of};
-ghost use Rattle.hk_model.specs.Faults.{IsPlaceFault};
-ghost use Rattle.hk_model.specs.Statements.{term_coefs, term_names};
+ghost use Rattle.hk_model.specs.inside.Fits.{ArePlacesOf};
+ghost use Rattle.hk_lines.specs.Plain.{terms_of};
+ghost use Rattle.hk_model.specs.inside.Faults.{IsPlaceFault};
+ghost use Rattle.hk_model.specs.Declares.{term_coefs, term_names};
 
 use crate::draft::Draft;
 use crate::faults::LineFault;
-use crate::phrases::Term;
 use crate::refusal::RefusalKind;
 use hk_base::List;
+use hk_lines::Term;
 use std::alloc::{AllocError, Global};
 
 /// The places of the variables of these names, where each is declared.

@@ -1,13 +1,14 @@
 use Rattle.std.proofs.Common.{◌≡◌, ◌++◌, ◌∷◌, [], ◌⊎◌, ◌≤◌, ◌<◌, All, Any, Bor, List, ℕ, length, map, true≢false, refl, sym, ap, ◌∙◌, subst, rules}
 use Rattle.std.specs.List.Sorted.{IsStrictlyIncreasing}
 use Rattle.std.proofs.lemmas.List.{length-map}
-use Rattle.hk_model.specs.declared.limits.TheConstants.{CONSTRAINTS}
-use Rattle.hk_model.specs.declared.posts.PostArg.{PostArg}
+use Rattle.hk_model.specs.Limits.{most_constraints}
+use Rattle.hk_lines.specs.declared.posts.PostArg.{PostArg}
 use Rattle.hk_model.specs.declared.problem.Constraint.TheVariants.{User}
-use Rattle.hk_model.specs.Posts.{Post, IsSmallArg, AreArgsOf}
-use Rattle.hk_model.specs.PostShapes.{args_of}
+use Rattle.hk_lines.specs.Posts.{Post}
+use Rattle.hk_model.specs.Postings.{IsSmallArg, AreArgsOf}
+use Rattle.hk_lines.specs.PostShapes.{args_of}
 use Rattle.hk_model.specs.Problems.{PlainProblem}
-use Rattle.hk_model.proofs.Membership.{now_of}
+use Rattle.hk_lines.proofs.Membership.{now_of}
 use Rattle.hk_model.proofs.PostFaults.{places_within, unfit_post, named_post, large_post, small_post, posted}
 use Rattle.hk_model.proofs.binding.add_post.Goals as goal
 
@@ -20,9 +21,9 @@ small_on : (names : List (Bor (List ℕ))) (args : List PostArg) → All (IsSmal
 small_on names args small = subst (λ n. All (IsSmallArg n) (args_of args)) (sym (length-map names now_of)) small
 
 -- and so are ones that are not
-large_on : (before : PlainProblem) (names : List (Bor (List ℕ))) (args : List PostArg) → (CONSTRAINTS ≤ length before.constraints) ⊎ Any (λ arg. IsSmallArg (length names) arg → ⊥) (args_of args)
-    → (CONSTRAINTS ≤ length before.constraints) ⊎ Any (λ arg. IsSmallArg (length (map now_of names)) arg → ⊥) (args_of args)
-large_on before names args large = subst (λ n. (CONSTRAINTS ≤ length before.constraints) ⊎ Any (λ arg. IsSmallArg n arg → ⊥) (args_of args)) (sym (length-map names now_of)) large
+large_on : (before : PlainProblem) (names : List (Bor (List ℕ))) (args : List PostArg) → (most_constraints ≤ length before.constraints) ⊎ Any (λ arg. IsSmallArg (length names) arg → ⊥) (args_of args)
+    → (most_constraints ≤ length before.constraints) ⊎ Any (λ arg. IsSmallArg (length (map now_of names)) arg → ⊥) (args_of args)
+large_on before names args large = subst (λ n. (most_constraints ≤ length before.constraints) ⊎ Any (λ arg. IsSmallArg n arg → ⊥) (args_of args)) (sym (length-map names now_of)) large
 
 pub returns-in_default-clause-err : goal.returns-in_default-clause-err
 returns-in_default-clause-err c = unfit_post c.args.specs.now c.args.draft.now (post_of c.args.name c.args.args c.args.names) (c.in_default.ensures.none refl)

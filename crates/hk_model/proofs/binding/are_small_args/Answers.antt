@@ -1,7 +1,7 @@
 use Rattle.std.proofs.Common.{All, true≢false, refl, sym, ◌∙◌, subst}
 use Rattle.std.proofs.lemmas.List.{take_all}
-use Rattle.hk_model.specs.Posts.{IsSmallArg}
-use Rattle.hk_model.specs.PostShapes.{plain_arg, args_of}
+use Rattle.hk_model.specs.Postings.{IsSmallArg}
+use Rattle.hk_lines.specs.PostShapes.{plain_arg, args_of}
 use Rattle.hk_model.proofs.PostFits.{small_at}
 use Rattle.hk_model.proofs.binding.are_small_args.Goals as goal
 

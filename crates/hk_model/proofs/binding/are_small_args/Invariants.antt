@@ -1,6 +1,6 @@
 use Rattle.std.proofs.Common.{All, take}
-use Rattle.hk_model.specs.Posts.{IsSmallArg}
-use Rattle.hk_model.specs.PostShapes.{args_of}
+use Rattle.hk_model.specs.Postings.{IsSmallArg}
+use Rattle.hk_lines.specs.PostShapes.{args_of}
 use Rattle.hk_model.proofs.binding.are_small_args.Given as goal
 
 -- the arguments so far are small

@@ -1,6 +1,6 @@
 use Rattle.std.proofs.Common.{◌≡◌, length}
-use Rattle.hk_model.specs.Posts.{FitKinds}
-use Rattle.hk_model.specs.PostShapes.{args_of}
+use Rattle.hk_model.specs.Postings.{FitKinds}
+use Rattle.hk_lines.specs.PostShapes.{args_of}
 use Rattle.hk_model.proofs.PostFits.{kinds_of}
 use Rattle.hk_model.proofs.binding.args_fit.Given as goal
 

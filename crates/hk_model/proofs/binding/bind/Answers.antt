@@ -1,7 +1,7 @@
 use Rattle.std.proofs.Common.{sym, subst}
 use Rattle.hk_spec.specs.Specifications.{Specification, IsSpecification, param_kinds}
-use Rattle.hk_model.specs.Posts.{FitKinds}
-use Rattle.hk_model.specs.PostShapes.{args_of}
+use Rattle.hk_model.specs.Postings.{FitKinds}
+use Rattle.hk_lines.specs.PostShapes.{args_of}
 use Rattle.hk_model.proofs.Bindings.{bound_arguments}
 use Rattle.hk_model.proofs.binding.bind.Goals as goal
 

@@ -1,6 +1,6 @@
 use Rattle.std.proofs.Common.{◌≡◌, ◌++◌, ◌∷◌, [], sym, subst, rules}
-use Rattle.hk_model.specs.Posts.{IsSmallArg, IsArgOf}
-use Rattle.hk_model.specs.PostShapes.{plain_arg}
+use Rattle.hk_model.specs.Postings.{IsSmallArg, IsArgOf}
+use Rattle.hk_lines.specs.PostShapes.{plain_arg}
 use Rattle.hk_model.proofs.PostFits.{small_at, bound_more}
 use Rattle.hk_model.proofs.binding.bound_args.Goals as goal
 

@@ -1,6 +1,6 @@
 use Rattle.std.proofs.Common.{take}
-use Rattle.hk_model.specs.Posts.{AreArgsOf}
-use Rattle.hk_model.specs.PostShapes.{args_of}
+use Rattle.hk_model.specs.Postings.{AreArgsOf}
+use Rattle.hk_lines.specs.PostShapes.{args_of}
 use Rattle.hk_model.proofs.binding.bound_args.Given as goal
 
 -- the arguments so far are bound

@@ -1,5 +1,5 @@
 use Rattle.std.proofs.Common.{not, true≢false, sym, ap, ◌∙◌, inr}
-use Rattle.hk_model.specs.PostShapes.{args_of}
+use Rattle.hk_lines.specs.PostShapes.{args_of}
 use Rattle.hk_model.proofs.PostFits.{some_large_arg}
 use Rattle.hk_model.proofs.binding.post_passes_limit.Goals as goal
 

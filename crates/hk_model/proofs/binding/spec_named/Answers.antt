@@ -1,7 +1,7 @@
 use Rattle.std.proofs.Common.{◌≡◌, List, true, false, sym, ap, ◌∙◌, bytes_eq}
 use Rattle.std.proofs.lemmas.List.{at_drop_all}
 use Rattle.hk_spec.specs.Specifications.{Specification}
-use Rattle.hk_model.specs.Posts.{spec_of}
+use Rattle.hk_model.specs.Postings.{spec_of}
 use Rattle.hk_model.proofs.PostFits.{found_here, found_later}
 use Rattle.hk_model.proofs.binding.spec_named.Goals as goal
 

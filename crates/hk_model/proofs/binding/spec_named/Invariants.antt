@@ -1,5 +1,5 @@
 use Rattle.std.proofs.Common.{◌≡◌, drop}
-use Rattle.hk_model.specs.Posts.{spec_of}
+use Rattle.hk_model.specs.Postings.{spec_of}
 use Rattle.hk_model.proofs.binding.spec_named.Given as goal
 
 -- the specification is the one that is found among those that are left

@@ -1,10 +1,12 @@
 use Rattle.std.proofs.Common.{◌≡◌, List, ℕ, map, Bor, OnOk, sym, subst, rules}
 use Rattle.std.proofs.lemmas.Result.{on_ok_weaker}
-use Rattle.hk_model.specs.declared.phrases.Values.{Values}
-use Rattle.hk_model.specs.declared.phrases.Term.{Term}
-use Rattle.hk_model.specs.declared.shapes.Shape.TheVariants.{Start, Variable, Distinct, Total, Objective}
-use Rattle.hk_model.specs.Declarations.{values_of, AddsDistinct, AddsTotal, AddsLeast}
-use Rattle.hk_model.specs.Statements.{Header, AddsVariable, Declares, declares_header, declares_variable}
+use Rattle.hk_lines.specs.declared.phrases.Values.{Values}
+use Rattle.hk_lines.specs.declared.phrases.Term.{Term}
+use Rattle.hk_lines.specs.declared.shapes.Shape.TheVariants.{Start, Variable, Distinct, Total, Objective}
+use Rattle.hk_lines.specs.Plain.{values_of}
+use Rattle.hk_model.specs.inside.Fits.{AddsDistinct, AddsTotal, AddsLeast}
+use Rattle.hk_lines.specs.Statements.{Header}
+use Rattle.hk_model.specs.Declares.{AddsVariable, Declares, declares_header, declares_variable}
 use Rattle.hk_model.proofs.Fitting.{distinct_declares, total_declares, objective_declares, declares_at}
 use Rattle.hk_model.proofs.declaring.declare.Goals as goal
 

@@ -1,7 +1,7 @@
 use Rattle.std.proofs.Common.{◌≡◌, ◌<◌, length, map, true≢false, sym, ◌∙◌, subst, arith, rules}
 use Rattle.std.specs.List.Sorted.{IsStrictlyIncreasing}
 use Rattle.hk_model.specs.LineFaults.{many_differ}
-use Rattle.hk_model.specs.Statements.{Distinct}
+use Rattle.hk_lines.specs.Statements.{Distinct}
 use Rattle.hk_model.proofs.Fitting.{place_fault, distinct_named, distinct_fits}
 use Rattle.hk_model.proofs.declaring.declare_distinct.Goals as goal
 

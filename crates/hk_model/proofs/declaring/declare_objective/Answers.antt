@@ -1,8 +1,8 @@
 use Rattle.std.proofs.Common.{◌≡◌, true≢false, sym, ◌∙◌, subst, rules}
 use Rattle.std.specs.List.Sorted.{IsStrictlyIncreasing}
-use Rattle.hk_model.specs.Declarations.{terms_of}
+use Rattle.hk_lines.specs.Plain.{terms_of}
 use Rattle.hk_model.specs.LineFaults.{second_objective, large_coef}
-use Rattle.hk_model.specs.Statements.{Objective}
+use Rattle.hk_lines.specs.Statements.{Objective}
 use Rattle.hk_model.proofs.Fitting.{place_fault, objective_named, objective_fits, some_large}
 use Rattle.hk_model.proofs.declaring.declare_objective.Goals as goal
 

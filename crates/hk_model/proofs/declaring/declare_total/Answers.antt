@@ -1,8 +1,9 @@
 use Rattle.std.proofs.Common.{◌≡◌, true≢false, sym, ◌∙◌, subst, rules}
 use Rattle.std.proofs.Math.Facts.{to_z-of_z}
 use Rattle.std.specs.List.Sorted.{IsStrictlyIncreasing}
-use Rattle.hk_model.specs.Declarations.{terms_of, FitsTotal}
-use Rattle.hk_model.specs.Statements.{Total}
+use Rattle.hk_lines.specs.Plain.{terms_of}
+use Rattle.hk_model.specs.inside.Fits.{FitsTotal}
+use Rattle.hk_lines.specs.Statements.{Total}
 use Rattle.hk_model.proofs.Fitting.{place_fault, total_named, total_fits}
 use Rattle.hk_model.proofs.declaring.declare_total.Goals as goal
 

@@ -1,10 +1,10 @@
 use Rattle.std.proofs.Common.{◌≡◌, ◌<◌, ◌≤◌, arith, false, true≢false, Option, None, Some, is_some, refl, sym, ◌∙◌, ap, rules}
 use Rattle.std.proofs.lemmas.List.{length-map}
 use Rattle.std.proofs.lemmas.List.Elements.{All-map}
-use Rattle.hk_model.specs.declared.limits.TheConstants.{VALUES}
-use Rattle.hk_model.specs.Declarations.{plain_values}
+use Rattle.hk_model.specs.Limits.{value_count}
+use Rattle.hk_lines.specs.Plain.{plain_values}
 use Rattle.hk_model.specs.LineFaults.{declared_twice}
-use Rattle.hk_model.specs.Statements.{place_of}
+use Rattle.hk_model.specs.Declares.{place_of}
 use Rattle.hk_model.proofs.declaring.declare_variable.Goals as goal
 
 -- an option that is not some is none
@@ -24,7 +24,7 @@ returns-clause-ok c =
       new = new;
       some = omega (arith, fits.some, length-map c.args.set.now plain_values);
       ordered = All-map (λ values. values.first ≤ values.last) plain_values c.args.set.now fits.ordered;
-      within = All-map (λ values. values.last < VALUES) plain_values c.args.set.now fits.within;
+      within = All-map (λ values. values.last < value_count) plain_values c.args.set.now fits.within;
       room = fits.room;
       domain = c.set_of_values.result;
       is_set = c.set_of_values.ensures;

@@ -1,5 +1,5 @@
 use Rattle.std.proofs.Common.{◌≡◌, ◌<◌, length, All, ◌+ℤ◌}
-use Rattle.hk_model.specs.declared.limits.TheConstants.{COEFFICIENT}
+use Rattle.hk_model.specs.Limits.{greatest_coefficient}
 use Rattle.hk_model.specs.Problems.{IsWithin}
 use Rattle.hk_model.specs.Solutions.{linear_value}
 use Rattle.hk_model.proofs.SumSizes.{HasRoom}
@@ -9,6 +9,6 @@ abbrev pub invariant-loop-variable : goal.invariant-loop-variable
 invariant-loop-variable l = record {
   whole : linear_value l.scope l.coefs l.values ≡ l.sum +ℤ linear_value l.variable-iterator.a.rest.now l.variable-iterator.b.rest.now l.values;
   declared : All (λ variable. variable < length l.values) l.variable-iterator.a.rest.now;
-  small : All (IsWithin COEFFICIENT) l.variable-iterator.b.rest.now;
+  small : All (IsWithin greatest_coefficient) l.variable-iterator.b.rest.now;
   room : HasRoom l.sum (length l.variable-iterator.a.rest.now);
 }

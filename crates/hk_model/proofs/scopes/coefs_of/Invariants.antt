@@ -1,6 +1,6 @@
 use Rattle.std.proofs.Common.{◌≡◌, ◌++◌, drop}
-use Rattle.hk_model.specs.Declarations.{terms_of}
-use Rattle.hk_model.specs.Statements.{term_coefs}
+use Rattle.hk_lines.specs.Plain.{terms_of}
+use Rattle.hk_model.specs.Declares.{term_coefs}
 use Rattle.hk_model.proofs.scopes.coefs_of.Given as goal
 
 -- the coefficients of all terms are those found, and those of the terms that are left

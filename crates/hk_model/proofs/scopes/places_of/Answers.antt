@@ -1,6 +1,6 @@
 use Rattle.std.proofs.Common.{◌≡◌, ◌++◌, ◌∷◌, [], refl, sym, ◌∙◌, rules}
-use Rattle.hk_model.specs.Statements.{place_of}
-use Rattle.hk_model.proofs.Membership.{now_of}
+use Rattle.hk_model.specs.Declares.{place_of}
+use Rattle.hk_lines.proofs.Membership.{now_of}
 use Rattle.hk_model.proofs.Places.{any_reference, unplaced, places_more}
 use Rattle.hk_model.proofs.scopes.places_of.Goals as goal
 

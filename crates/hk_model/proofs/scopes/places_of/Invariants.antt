@@ -1,6 +1,6 @@
 use Rattle.std.proofs.Common.{◌≡◌, ◌++◌, map, drop, Some}
-use Rattle.hk_model.specs.Statements.{place_of}
-use Rattle.hk_model.proofs.Membership.{now_of}
+use Rattle.hk_model.specs.Declares.{place_of}
+use Rattle.hk_lines.proofs.Membership.{now_of}
 use Rattle.hk_model.proofs.scopes.places_of.Given as goal
 
 -- the places of all names are those found, and those of the names that are left

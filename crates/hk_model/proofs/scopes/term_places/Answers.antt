@@ -1,5 +1,5 @@
 use Rattle.std.proofs.Common.{◌≡◌, ◌++◌, ◌∷◌, [], None, Any, map, refl, ap, sym, ◌∙◌, subst, rules}
-use Rattle.hk_model.specs.Statements.{place_of}
+use Rattle.hk_model.specs.Declares.{place_of}
 use Rattle.hk_model.proofs.Places.{any_term, name_of, names_of_terms, unplaced, places_more, places_all}
 use Rattle.hk_model.proofs.scopes.term_places.Goals as goal
 

@@ -1,5 +1,5 @@
 use Rattle.std.proofs.Common.{◌≡◌, ◌++◌, map, drop, Some}
-use Rattle.hk_model.specs.Statements.{place_of}
+use Rattle.hk_model.specs.Declares.{place_of}
 use Rattle.hk_model.proofs.Places.{name_of}
 use Rattle.hk_model.proofs.scopes.term_places.Given as goal
 

@@ -1,6 +1,6 @@
 use Rattle.std.proofs.Common.{sym, subst, ◌≤◌, ◌<◌, length, arith}
-use Rattle.hk_model.specs.declared.limits.TheConstants.{SPECIFICATIONS}
-use Rattle.hk_model.specs.Faults.{IsLineFault}
+use Rattle.hk_model.specs.Limits.{most_specifications}
+use Rattle.hk_model.specs.inside.Faults.{IsLineFault}
 use Rattle.hk_model.proofs.Openings.{begun_taken, begun_full, begun_opens, begun_fault}
 use Rattle.hk_model.proofs.declared.Declared.begin.Goals as goal
 
@@ -9,12 +9,12 @@ returns-in-Ok-clause-err c = begun_taken c.args.self.now c.requires.has c.requir
 
 pub returns-in-Ok-2-clause-err : goal.returns-in-Ok-2-clause-err
 returns-in-Ok-2-clause-err c =
-    let full : SPECIFICATIONS ≤ length c.args.self.now.specs = omega (arith, c.if-spec_count-ge-SPECIFICATIONS.true, c.spec_count.ensures) in
+    let full : most_specifications ≤ length c.args.self.now.specs = omega (arith, c.if-spec_count-ge-SPECIFICATIONS.true, c.spec_count.ensures) in
     begun_full c.args.self.now c.requires.has c.requires.begins.1 c.requires.outside c.requires.started c.is_taken-taken.ensures c.in-Ok.ensures.ok c.if-taken.false full
 
 pub returns-in-Ok-3-clause-ok : goal.returns-in-Ok-3-clause-ok
 returns-in-Ok-3-clause-ok c =
-    let room : length c.args.self.now.specs < SPECIFICATIONS = omega (arith, c.if-spec_count-ge-SPECIFICATIONS.false, c.spec_count.ensures) in
+    let room : length c.args.self.now.specs < most_specifications = omega (arith, c.if-spec_count-ge-SPECIFICATIONS.false, c.spec_count.ensures) in
     begun_opens c.args.self.now c.requires.has c.requires.begins.1 c.requires.outside c.requires.started c.is_taken-taken.ensures c.in-Ok.ensures.ok c.if-taken.false room
 
 pub returns-in-Err-clause-err : goal.returns-in-Err-clause-err

@@ -2,9 +2,9 @@ use Rattle.std.proofs.Common.{◌≡◌, ◌≢◌, [], Some, IsSome, is_some, s
 use Rattle.std.proofs.lemmas.Result.{on_ok_weaker}
 use Rattle.hk_text.specs.Texts.{texts_of}
 use Rattle.hk_text.specs.Tokens.{HasTexts}
-use Rattle.hk_model.specs.Faults.{IsLineFault}
+use Rattle.hk_model.specs.inside.Faults.{IsLineFault}
 use Rattle.hk_model.specs.Models.{Declared, good_empty}
-use Rattle.hk_model.proofs.Capping.{texts_over, texts_go_on}
+use Rattle.hk_text.proofs.TokenTexts.{texts_over, texts_go_on}
 use Rattle.hk_model.proofs.InsideLines.{fault_inside, goes_on, ends}
 use Rattle.hk_model.proofs.declared.Declared.read.Goals as goal
 

@@ -1,9 +1,9 @@
 use Rattle.std.proofs.Common.{refl, sym, ◌∙◌, true≢false}
 use Rattle.std.proofs.lemmas.Result.{on_ok_weaker, IfErr-weaker}
 use Rattle.hk_text.specs.Texts.{texts_of}
-use Rattle.hk_model.specs.Declarations.{statement_of}
-use Rattle.hk_model.specs.Faults.{IsStatementFault, IsLineFault}
-use Rattle.hk_model.specs.Shapes.{IsShapeOf}
+use Rattle.hk_lines.specs.Plain.{statement_of}
+use Rattle.hk_model.specs.inside.Faults.{IsStatementFault, IsLineFault}
+use Rattle.hk_lines.specs.Shapes.{IsShapeOf}
 use Rattle.hk_model.proofs.FaultRanks.{later_line, later_begins, first_later, fault_bad}
 use Rattle.hk_model.proofs.FirstFaults.{first_of_statement}
 use Rattle.hk_model.proofs.OutsideLines.{silent_line, effect_after}

@@ -2,8 +2,8 @@ use Rattle.std.proofs.Common.{◌∷◌, refl}
 use Rattle.std.proofs.lemmas.Result.{on_ok_weaker, IfErr-weaker}
 use Rattle.std.specs.Prelude.{codes}
 use Rattle.hk_text.specs.Texts.{texts_of}
-use Rattle.hk_model.specs.Faults.{IsLineFault, IsPostFaultAfter}
-use Rattle.hk_model.specs.PostShapes.{plain_post, IsPostShapeOf}
+use Rattle.hk_model.specs.inside.Faults.{IsLineFault, IsPostFaultAfter}
+use Rattle.hk_lines.specs.PostShapes.{plain_post, IsPostShapeOf}
 use Rattle.hk_model.proofs.OutsideLines.{post_syntax, first_of_post, effect_of_post}
 use Rattle.hk_model.proofs.declared.Declared.read_post.Goals as goal
 use Rattle.hk_model.proofs.declared.Declared.read_post.Goals.{In-Ok-Some}

@@ -1,7 +1,7 @@
 use Rattle.std.proofs.Common.{◌≡◌, ℕ, List, ◌∷◌, [], ◌++◌, None, ap, ◌∙◌}
 use Rattle.std.specs.Map.{keys_of}
 use Rattle.hk_model.specs.Problems.{PlainProblem}
-use Rattle.hk_model.specs.Statements.{place_of}
+use Rattle.hk_model.specs.Declares.{place_of}
 use Rattle.hk_model.proofs.Naming.{Key, names_of, problem_of, insert_entry-named, problem_of-push}
 use Rattle.hk_model.proofs.draft.Draft.add_variable.Goals as goal
 

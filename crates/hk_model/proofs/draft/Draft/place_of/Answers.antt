@@ -1,7 +1,7 @@
 use Rattle.std.proofs.Common.{◌≡◌, ap, sym, ◌∙◌}
 use Rattle.indexmap.specs.IndexMap.{keys}
 use Rattle.hk_model.specs.Problems.{PlainProblem}
-use Rattle.hk_model.specs.Statements.{place_of}
+use Rattle.hk_model.specs.Declares.{place_of}
 use Rattle.hk_model.proofs.Naming.{place_of-names_of}
 use Rattle.hk_model.proofs.draft.Draft.place_of.Goals as goal
 use Rattle.hk_model.proofs.draft.Draft.place_of.Goals.{After-get_index_of}

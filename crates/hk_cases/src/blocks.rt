@@ -1,0 +1,161 @@
+//! Specifications: which texts are read and how they are printed, and which are refused and why.
+
+use hk_base::{Bytes, List};
+use hk_parse::{BlockFault, SpecFault, print_spec, read_spec};
+use std::alloc::{AllocError, Global};
+use std::test::Fail;
+
+/// The most bytes that are read.
+const MOST_BYTES: usize = 1_048_576;
+
+/// The text of a specification, read and printed.
+fn reprinted(alloc: Global, text: &[u8]) -> Result<Bytes, Fail> {
+    let mut out = List::new(alloc);
+    if text.len() <= MOST_BYTES {
+        let spec = read_spec(alloc, text)?;
+        print_spec(&spec, &mut out)?;
+    }
+    Ok(out)
+}
+
+/// The line and the fault for which a text is refused, where it is; want of memory has no line.
+fn refusal(alloc: Global, text: &[u8]) -> Option<(u32, BlockFault)> {
+    if text.len() > MOST_BYTES {
+        return Some((0, BlockFault::Limit));
+    }
+    match read_spec(alloc, text) {
+        Ok(_) => None,
+        Err(SpecFault::Syntax(line)) => Some((line, BlockFault::Syntax)),
+        Err(SpecFault::Name(line)) => Some((line, BlockFault::Name)),
+        Err(SpecFault::Limit(line)) => Some((line, BlockFault::Limit)),
+        Err(SpecFault::Memory) => Some((0, BlockFault::Memory)),
+    }
+}
+
+/// Appends the piece `count` times.
+fn repeat(out: &mut Bytes, piece: &[u8], count: usize) -> Result<(), AllocError> {
+    for _ in 0..count {
+        out.push_all(piece)?;
+    }
+    Ok(())
+}
+
+/// A specification whose test is these pieces, each as often as is said beside it.
+fn with_test(alloc: Global, pieces: &[(&str, usize)]) -> Result<Bytes, AllocError> {
+    let mut text = List::new(alloc);
+    text.push_all(b"spec deep ()\ntest ")?;
+    for (piece, count) in pieces {
+        repeat(&mut text, piece.as_bytes(), *count)?;
+    }
+    text.push_all(b"\nend\n")?;
+    Ok(text)
+}
+
+#[test]
+fn specifications_are_printed_spaced(rt: HostRuntime) -> Result<(), Fail> {
+    let rows = [
+        (
+            "spec rise ()\ndown m Min 0\ntest ((i < 1) or (m < v))\nstep m v\nend\n",
+            "spec rise ()\ndown m Min 0\ntest ( ( i < 1 ) or ( m < v ) )\nstep m v\nend\n",
+        ),
+        (
+            "# few or many\nspec count(num most,set vals)\n\tdown c Interval 0..0\n\n\
+             test ((c.lo + card(({v} & vals))) <= most)#now\n\
+             step c (c.lo + card(({v}&vals))) (c.hi+1)\nend",
+            "spec count ( num most , set vals )\ndown c Interval 0 .. 0\n\
+             test ( ( c . lo + card ( ( { v } & vals ) ) ) <= most )\n\
+             step c ( c . lo + card ( ( { v } & vals ) ) ) ( c . hi + 1 )\nend\n",
+        ),
+        (
+            "spec odd (list k)\ndown o Max -5\nup s AllBits {1, 3}\n\
+             test (((-5) < max(o, (k[i] * -2))) and (not (v notin s)))\n\
+             step o (o-1)\nstep s ((s \\ {v})|{})\nend\n",
+            "spec odd ( list k )\ndown o Max - 5\nup s AllBits { 1 , 3 }\n\
+             test ( ( ( - 5 ) < max ( o , ( k [ i ] * - 2 ) ) ) and ( not ( v notin s ) ) )\n\
+             step o ( o - 1 )\nstep s ( ( s \\ { v } ) | { } )\nend\n",
+        ),
+    ];
+    for (text, spaced) in rows {
+        let printed = reprinted(rt.alloc(), text.as_bytes())?;
+        assert_eq!(rt; printed.as_slice(), spaced.as_bytes(), "{text}");
+    }
+    Ok(())
+}
+
+#[test]
+fn bad_lines_are_told(rt: HostRuntime) {
+    let rows = [
+        ("", 1, BlockFault::Syntax),
+        ("spec a ()\ntest true\n", 3, BlockFault::Syntax),
+        ("spec a ()\ntest true $\nend\n", 2, BlockFault::Syntax),
+        ("spec a ()\nend\n", 2, BlockFault::Syntax),
+        (
+            "spec a ()\ntest true\nend\n# no more\nend\n",
+            5,
+            BlockFault::Syntax,
+        ),
+        ("spec a ()\ndown m Min -0\n", 2, BlockFault::Syntax),
+        ("spec a ()\ntest (i < -0)\n", 2, BlockFault::Syntax),
+        ("spec a ()\ndown s SomeBits {2, 1}\n", 2, BlockFault::Syntax),
+        ("spec a ()\ntest (v in {2, 1})\n", 2, BlockFault::Syntax),
+        ("spec a ()\ndown v Min 0\n", 2, BlockFault::Name),
+        (
+            "spec a ()\ndown m Min 0\ndown k Max 0\ntest true\nstep k v\n",
+            5,
+            BlockFault::Name,
+        ),
+        (
+            "spec a ()\ndown m Min 0\nup k Max 0\ntest true\nstep m k\n",
+            5,
+            BlockFault::Name,
+        ),
+        ("spec a ()\ntest (v in {128})\n", 2, BlockFault::Limit),
+    ];
+    for (text, line, fault) in rows {
+        assert_eq!(rt;
+            refusal(rt.alloc(), text.as_bytes()),
+            Some((line, fault)),
+            "{text}"
+        );
+    }
+}
+
+#[test]
+fn deep_conditions_are_told(rt: HostRuntime) -> Result<(), Fail> {
+    let syntax = Some((2, BlockFault::Syntax));
+    let name = Some((2, BlockFault::Name));
+    let limit = Some((2, BlockFault::Limit));
+    let rows: [(&[(&str, usize)], Option<(u32, BlockFault)>); 12] = [
+        (&[("true", 1), (" ", 1_048_549)], None),
+        (&[("(not ", 31), ("true", 1), (")", 31)], None),
+        (&[("(not ", 32), ("true", 1), (")", 32)], limit),
+        (&[("(not ", 100_000), ("true", 1), (")", 100_000)], limit),
+        (&[("(not ", 31), ("(x < 1)", 1), (")", 31)], name),
+        (&[("(not ", 32), ("(x < 1)", 1), (")", 32)], name),
+        (&[("(not ", 100_000), ("(x < 1)", 1), (")", 100_000)], name),
+        (
+            &[
+                ("((not ", 1),
+                ("(not ", 99_999),
+                ("true", 1),
+                (")", 100_000),
+                (" and (x < 1))", 1),
+            ],
+            name,
+        ),
+        (&[("(not ", 100_000), ("true", 1), (")", 99_999)], syntax),
+        (&[("(not ", 100_000), ("x", 1), (")", 100_000)], syntax),
+        (&[("(", 100_000)], syntax),
+        (&[("(", 100_000), ("x", 1)], syntax),
+    ];
+    for (pieces, told) in rows {
+        let text = with_test(rt.alloc(), pieces)?;
+        let (piece, count) = pieces.first().copied().unwrap_or(("", 0));
+        assert_eq!(rt;
+            refusal(rt.alloc(), text.as_slice()),
+            told,
+            "{count} {piece}"
+        );
+    }
+    Ok(())
+}

@@ -1,0 +1,68 @@
+-- The tokens of a line say at most one statement.
+use Rattle.std.proofs.Common.{◌≡◌, ℕ, List, [], ◌∷◌, refl, ap, subst, ◌∙◌}
+use Rattle.hk_lines.specs.Phrases.{SetThen, TermsThen, BoundsThen}
+use Rattle.hk_lines.specs.Statements.{Statement, Variable, Distinct, Total, Objective, Says, says_header, says_variable, says_distinct, says_total, says_objective, scope_end}
+use Rattle.hk_text.proofs.TokenTexts.{apart, apart_none, same_first, same_rest}
+use Rattle.hk_lines.proofs.Phrasing.{set_one, terms_one, bounds_one}
+
+-- the names of a scope are determined by its tokens
+pub scope_end_one : (xs ys : List (List ℕ)) → scope_end xs ≡ scope_end ys → xs ≡ ys
+scope_end_one [] [] same = refl
+scope_end_one [] (y ∷ ys) same = absurd (apart 0 refl same refl)
+scope_end_one (x ∷ xs) [] same = absurd (apart 0 refl same refl)
+scope_end_one (x ∷ xs) (y ∷ ys) same =
+    let names = same_rest refl same in
+    let first : x ≡ y = same_first refl names in
+    let rest : xs ≡ ys = scope_end_one xs ys (same_rest refl names) in
+    cc
+
+-- texts say one statement
+pub says_one : {texts : List (List ℕ)} {s t : Statement} → Says texts s → Says texts t → s ≡ t
+says_one (says_header x) (says_header y) = refl
+says_one (says_header x) (says_variable y word set) = absurd (apart 0 x y refl)
+says_one (says_header x) (says_distinct y words) = absurd (apart 0 x y refl)
+says_one (says_header x) (says_total y terms bounds) = absurd (apart 0 x y refl)
+says_one (says_header x) (says_objective y terms) = absurd (apart 0 x y refl)
+says_one (says_variable x word set) (says_header y) = absurd (apart 0 x y refl)
+says_one (says_variable {name = n} {set = s} x word set) (says_variable {name = n'} {set = s'} y word' set') =
+    let after = same_rest x y in
+    let name : n ≡ n' = same_first refl after in
+    let more = same_rest refl (same_rest refl after) in
+    let same : s ≡ s' = (set_one (subst (λ texts. SetThen texts s []) more set) set').0 in
+    ap (λ named. Variable named s) name ∙ ap (Variable n') same
+says_one (says_variable x word set) (says_distinct y words) = absurd (apart 0 x y refl)
+says_one (says_variable x word set) (says_total y terms bounds) = absurd (apart 0 x y refl)
+says_one (says_variable x word set) (says_objective y terms) = absurd (apart 0 x y refl)
+says_one (says_distinct x words) (says_header y) = absurd (apart 0 x y refl)
+says_one (says_distinct x words) (says_variable y word set) = absurd (apart 0 x y refl)
+says_one (says_distinct {name = n} {more = m} x words) (says_distinct {name = n'} {more = m'} y words') =
+    let scope = same_rest refl (same_rest x y) in
+    let name : n ≡ n' = same_first refl scope in
+    let more : m ≡ m' = scope_end_one m m' (same_rest refl scope) in
+    ap (λ first. Distinct (first ∷ m)) name ∙ ap (λ rest. Distinct (n' ∷ rest)) more
+says_one (says_distinct x words) (says_total y terms bounds) = absurd (apart 0 x y refl)
+says_one (says_distinct x words) (says_objective y terms) = absurd (apart 0 x y refl)
+says_one (says_total x terms bounds) (says_header y) = absurd (apart 0 x y refl)
+says_one (says_total x terms bounds) (says_variable y word set) = absurd (apart 0 x y refl)
+says_one (says_total x terms bounds) (says_distinct y words) = absurd (apart 0 x y refl)
+says_one (says_total {bounds = b} {terms = t} {least = l} {most = m} x terms bounds) (says_total {terms = t'} {least = l'} {most = m'} y terms' bounds') =
+    let more = same_rest refl (same_rest x y) in
+    let read = terms_one (subst (λ texts. TermsThen texts t b) more terms) terms' in
+    let ends = bounds_one (subst (λ texts. BoundsThen texts l m []) read.1 bounds) bounds' in
+    ap (λ sum. Total sum l m) read.0 ∙ ap (λ least. Total t' least m) ends.0 ∙ ap (Total t' l') ends.1
+says_one (says_total x terms bounds) (says_objective y terms') = absurd (apart 0 x y refl)
+says_one (says_objective x terms) (says_header y) = absurd (apart 0 x y refl)
+says_one (says_objective x terms) (says_variable y word set) = absurd (apart 0 x y refl)
+says_one (says_objective x terms) (says_distinct y words) = absurd (apart 0 x y refl)
+says_one (says_objective x terms) (says_total y terms' bounds) = absurd (apart 0 x y refl)
+says_one (says_objective {terms = t} x terms) (says_objective y terms') =
+    let more = same_rest refl (same_rest x y) in
+    ap Objective (terms_one (subst (λ texts. TermsThen texts t []) more terms) terms').0
+
+-- no tokens say no statement
+pub says_nothing : {s : Statement} → Says [] s → ⊥
+says_nothing (says_header x) = apart_none refl x
+says_nothing (says_variable x word set) = apart_none refl x
+says_nothing (says_distinct x words) = apart_none refl x
+says_nothing (says_total x terms bounds) = apart_none refl x
+says_nothing (says_objective x terms) = apart_none refl x

@@ -1,0 +1,15 @@
+pub mod Later
+pub mod Limits
+pub mod Phrases
+pub mod Plain
+pub mod PostShapes
+pub mod Posts
+pub mod Shapes
+pub mod Statements
+pub mod ValueSets
+pub mod inside
+pub use Rattle.hk_base.specs.Sets
+pub use Rattle.hk_text.specs.Lexemes
+pub use Rattle.hk_text.specs.Numbers
+pub use Rattle.hk_text.specs.Texts
+pub use Rattle.hk_text.specs.Tokens

@@ -1,0 +1,30 @@
+-- What the tokens of a line say: a statement.
+use Rattle.std.specs.Prelude.{◌≡◌, ℕ, ℤ, List, [], ◌∷◌, All, codes}
+use Rattle.hk_text.specs.Lexemes.{IsWord}
+use Rattle.hk_lines.specs.Phrases.{Values, Term, SetThen, TermsThen, BoundsThen}
+
+-- the tokens of a scope after its first name: further names, each after a comma, and the closing parenthesis
+abbrev pub scope_end : List (List ℕ) → List (List ℕ)
+scope_end [] = codes ")" ∷ []
+scope_end (name ∷ more) = codes "," ∷ name ∷ scope_end more
+
+-- the header; a variable with its name and its set; that the variables of these names differ; that a sum of terms lies between two bounds; that a sum of terms is to be least
+pub data Statement : Type 0 where
+  Header : Statement
+  Variable : (name : List ℕ) (set : List Values) → Statement
+  Distinct : (names : List (List ℕ)) → Statement
+  Total : (terms : List Term) (least most : ℤ) → Statement
+  Objective : (terms : List Term) → Statement
+
+-- the tokens of a line say a statement: `hkm 1`; `var NAME in SET`; `alldifferent (NAME, NAME)` with one name or more; `sum (TERM, TERM) LEAST..MOST` and `minimize (TERM, TERM)` with one term or more
+pub data Says : List (List ℕ) → Statement → Type 0 where
+  says_header : {texts : List (List ℕ)} → texts ≡ codes "hkm" ∷ codes "1" ∷ [] → Says texts Header
+  says_variable : {texts more : List (List ℕ)} {name : List ℕ} {set : List Values}
+      → texts ≡ codes "var" ∷ name ∷ codes "in" ∷ more → IsWord name → SetThen more set [] → Says texts (Variable name set)
+  says_distinct : {texts : List (List ℕ)} {name : List ℕ} {more : List (List ℕ)}
+      → texts ≡ codes "alldifferent" ∷ codes "(" ∷ name ∷ scope_end more
+      → All IsWord (name ∷ more) → Says texts (Distinct (name ∷ more))
+  says_total : {texts more bounds : List (List ℕ)} {terms : List Term} {least most : ℤ}
+      → texts ≡ codes "sum" ∷ codes "(" ∷ more → TermsThen more terms bounds → BoundsThen bounds least most [] → Says texts (Total terms least most)
+  says_objective : {texts more : List (List ℕ)} {terms : List Term}
+      → texts ≡ codes "minimize" ∷ codes "(" ∷ more → TermsThen more terms [] → Says texts (Objective terms)

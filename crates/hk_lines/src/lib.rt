@@ -1,0 +1,15 @@
+//! What the tokens of a line of a model say: a statement, or a post of a specification. Whether it
+//! may stand there isn't asked here.
+#![tactic(auto)]
+
+pub use later::begins_later;
+pub use phrases::{Term, Values};
+pub use posts::{PostArg, PostShape, post_of};
+pub use sets::set_of_values;
+pub use shapes::{Shape, shape_of};
+
+mod later;
+mod phrases;
+mod posts;
+mod sets;
+mod shapes;

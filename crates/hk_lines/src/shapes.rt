@@ -1,0 +1,167 @@
+//! The shape of a line: which statement its tokens say.
+
+ghost use Rattle.hk_text.specs.Tokens.{IsTokenIn};
+ghost use Rattle.std.specs.Prelude.{◌≡◌, ◌∷◌, ◌↔◌, [], All, IsTrue, IfOk, IfSome, IsNone, codes};
+ghost use Rattle.hk_text.specs.Texts.{texts_of};
+ghost use Rattle.hk_lines.specs.Shapes.{IsShapeOf, SayNothing};
+
+use crate::phrases::{Term, Values, bounds_of, names_of, set_of, terms_of};
+use hk_base::List;
+use hk_text::{Token, after_text, has_text, word_of};
+use std::alloc::{AllocError, Global};
+
+/// What the tokens of a line say, with each number above all limits as one such number.
+#[derive(Drop)]
+pub enum Shape<'a> {
+    /// `hkm 1`
+    Start,
+    /// `var NAME in SET`
+    Variable {
+        name: &'a [u8],
+        set: List<Values>,
+    },
+    /// `alldifferent (NAME, NAME)`
+    Distinct {
+        names: List<&'a [u8]>,
+    },
+    /// `sum (TERM, TERM) LEAST..MOST`
+    Total {
+        terms: List<Term<'a>>,
+        least: i64,
+        most: i64,
+    },
+    /// `minimize (TERM, TERM)`
+    Objective {
+        terms: List<Term<'a>>,
+    },
+}
+
+/// The shape of a line's tokens, where they have one.
+pub fn shape_of<'a>(
+    alloc: Global,
+    line: &'a [u8],
+    tokens: &[Token],
+) -> Result<Option<Shape<'a>>, AllocError>
+    requires { All (IsTokenIn line.now) tokens.now }
+    ensures shape { IfOk result (λ found. IfSome found (IsShapeOf (texts_of line.now tokens.now))) }
+    ensures none { IfOk result (λ found. IsNone found → SayNothing (texts_of line.now tokens.now)) }
+{
+    if is_start(line, tokens) {
+        return Ok(Some(Shape::Start));
+    }
+    if let Some(rest) = after_text(line, tokens, b"var") {
+        return variable_of(alloc, line, rest);
+    }
+    if let Some(rest) = after_text(line, tokens, b"alldifferent") {
+        return scope_of(alloc, line, rest);
+    }
+    if let Some(rest) = after_text(line, tokens, b"sum") {
+        return total_of(alloc, line, rest);
+    }
+    if let Some(rest) = after_text(line, tokens, b"minimize") {
+        return objective_of(alloc, line, rest);
+    }
+    Ok(None)
+}
+
+/// Whether the tokens are `hkm 1`.
+fn is_start(line: &[u8], tokens: &[Token]) -> bool
+    requires { All (IsTokenIn line.now) tokens.now }
+    ensures { IsTrue result ↔ (texts_of line.now tokens.now ≡ codes "hkm" ∷ codes "1" ∷ []) }
+{
+    match tokens {
+        [word, version] => has_text(line, *word, b"hkm") && has_text(line, *version, b"1"),
+        _ => false,
+    }
+}
+
+/// The shape of `var` and these tokens.
+fn variable_of<'a>(
+    alloc: Global,
+    line: &'a [u8],
+    tokens: &[Token],
+) -> Result<Option<Shape<'a>>, AllocError>
+    requires { All (IsTokenIn line.now) tokens.now }
+    ensures shape { IfOk result (λ found. IfSome found (IsShapeOf (codes "var" ∷ texts_of line.now tokens.now))) }
+    ensures none { IfOk result (λ found. IsNone found → SayNothing (codes "var" ∷ texts_of line.now tokens.now)) }
+{
+    let Some((name, after)) = word_of(line, tokens) else {
+        return Ok(None);
+    };
+    let Some(after) = after_text(line, after, b"in") else {
+        return Ok(None);
+    };
+    let Some((set, rest)) = set_of(alloc, line, after)? else {
+        return Ok(None);
+    };
+    if !rest.is_empty() {
+        return Ok(None);
+    }
+    Ok(Some(Shape::Variable { name, set }))
+}
+
+/// The shape of `alldifferent` and these tokens.
+fn scope_of<'a>(
+    alloc: Global,
+    line: &'a [u8],
+    tokens: &[Token],
+) -> Result<Option<Shape<'a>>, AllocError>
+    requires { All (IsTokenIn line.now) tokens.now }
+    ensures shape { IfOk result (λ found. IfSome found (IsShapeOf (codes "alldifferent" ∷ texts_of line.now tokens.now))) }
+    ensures none { IfOk result (λ found. IsNone found → SayNothing (codes "alldifferent" ∷ texts_of line.now tokens.now)) }
+{
+    let Some(open) = after_text(line, tokens, b"(") else {
+        return Ok(None);
+    };
+    let Some((names, rest)) = names_of(alloc, line, open)? else {
+        return Ok(None);
+    };
+    if !rest.is_empty() {
+        return Ok(None);
+    }
+    Ok(Some(Shape::Distinct { names }))
+}
+
+/// The shape of `sum` and these tokens.
+fn total_of<'a>(
+    alloc: Global,
+    line: &'a [u8],
+    tokens: &[Token],
+) -> Result<Option<Shape<'a>>, AllocError>
+    requires { All (IsTokenIn line.now) tokens.now }
+    ensures shape { IfOk result (λ found. IfSome found (IsShapeOf (codes "sum" ∷ texts_of line.now tokens.now))) }
+    ensures none { IfOk result (λ found. IsNone found → SayNothing (codes "sum" ∷ texts_of line.now tokens.now)) }
+{
+    let Some(open) = after_text(line, tokens, b"(") else {
+        return Ok(None);
+    };
+    let Some((terms, rest)) = terms_of(alloc, line, open)? else {
+        return Ok(None);
+    };
+    let Some((least, most)) = bounds_of(line, rest) else {
+        return Ok(None);
+    };
+    Ok(Some(Shape::Total { terms, least, most }))
+}
+
+/// The shape of `minimize` and these tokens.
+fn objective_of<'a>(
+    alloc: Global,
+    line: &'a [u8],
+    tokens: &[Token],
+) -> Result<Option<Shape<'a>>, AllocError>
+    requires { All (IsTokenIn line.now) tokens.now }
+    ensures shape { IfOk result (λ found. IfSome found (IsShapeOf (codes "minimize" ∷ texts_of line.now tokens.now))) }
+    ensures none { IfOk result (λ found. IsNone found → SayNothing (codes "minimize" ∷ texts_of line.now tokens.now)) }
+{
+    let Some(open) = after_text(line, tokens, b"(") else {
+        return Ok(None);
+    };
+    let Some((terms, rest)) = terms_of(alloc, line, open)? else {
+        return Ok(None);
+    };
+    if !rest.is_empty() {
+        return Ok(None);
+    }
+    Ok(Some(Shape::Objective { terms }))
+}

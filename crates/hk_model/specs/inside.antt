@@ -1,0 +1,4 @@
+-- Definitions that only contracts within the crate cite.
+pub mod Faults
+pub mod Fits
+pub mod PostFaults
