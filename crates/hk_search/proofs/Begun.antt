@@ -5,7 +5,7 @@ use Rattle.std.proofs.lemmas.Bool.{cases_lt}
 use Rattle.hk_base.specs.Sets.{Has}
 use Rattle.hk_model.specs.Problems.{PlainProblem, IsValid}
 use Rattle.hk_model.specs.Solutions.{IsSolution}
-use Rattle.hk_search.specs.Walks.{IsBegun}
+use Rattle.hk_search.specs.inside.Walks.{IsBegun}
 
 -- a valid problem's sets have values below 128 alone
 pub below_from_Has : (p : PlainProblem) (variable value : ℕ) → IsValid p → variable < length p.domains → Has (slice_index p.domains variable) value → value < 128

@@ -1,5 +1,4 @@
 pub mod AnswerLines
-pub mod Appending
 pub mod Begun
 pub mod Orders
 pub mod Trying

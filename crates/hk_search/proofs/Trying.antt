@@ -9,7 +9,7 @@ use Rattle.hk_model.specs.Problems.{PlainProblem}
 use Rattle.hk_model.specs.Solutions.{IsSolution, IsNotAfter, Holds, cost_by, cost_of}
 use Rattle.hk_search.specs.declared.found.Found.{Found}
 use Rattle.hk_search.specs.Findings.{IsFinding}
-use Rattle.hk_search.specs.Walks.{IsBegun, IsBetter, IsBestAfter, kept, improved}
+use Rattle.hk_search.specs.inside.Walks.{IsBegun, IsBetter, IsBestAfter, kept, improved}
 use Rattle.hk_search.proofs.Orders.{IsNotAfter-refl}
 
 -- what is better than the best costs no more than what isn't

@@ -8,7 +8,7 @@ use Rattle.std.specs.Prelude.{slice_index}
 use Rattle.hk_model.specs.Problems.{PlainProblem, IsValid}
 use Rattle.hk_model.specs.Solutions.{IsSolution, IsNotAfter}
 use Rattle.hk_search.specs.declared.found.Found.{Found}
-use Rattle.hk_search.specs.Walks.{IsBestAfter, kept}
+use Rattle.hk_search.specs.inside.Walks.{IsBestAfter, kept}
 use Rattle.hk_search.proofs.Begun.{below_from_Has, next_in_set}
 use Rattle.hk_search.proofs.Orders.{IsNotAfter-difference}
 use Rattle.hk_search.proofs.Trying.{IsBestAfter-same, IsBestAfter-joined}

@@ -1,3 +1,4 @@
+-- What a finished search found.
 use Rattle.std.specs.Prelude.{◌≡◌, ℕ, List, Some, None}
 use Rattle.std.specs.declared.option.Option.{Option}
 use Rattle.hk_model.specs.Problems.{PlainProblem}

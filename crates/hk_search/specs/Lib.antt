@@ -1,3 +1,3 @@
 pub mod AnswerTexts
 pub mod Findings
-pub mod Walks
+pub mod inside

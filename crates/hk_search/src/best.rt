@@ -1,6 +1,8 @@
+//! The best solution so far.
+
 ghost use Rattle.std.specs.Prelude.{◌≡◌, ◌<◌, ◌≤◌, ◌↔◌, length, All, IsNone, IsSome, IsTrue, OnOk};
 ghost use Rattle.hk_base.specs.Lists.{IsFrontOf};
-ghost use Rattle.hk_search.specs.Walks.{IsBegun, IsBetter, IsBestAfter};
+ghost use Rattle.hk_search.specs.inside.Walks.{IsBegun, IsBetter, IsBestAfter};
 
 use crate::found::Found;
 use hk_base::List;

@@ -1,3 +1,5 @@
+//! A solution that a search keeps.
+
 use hk_base::List;
 
 /// A solution that a search found: what it costs, and a value for each variable.

@@ -1,157 +1,96 @@
-ghost use Rattle.std.specs.Prelude.{◌≡◌, ◌<◌, ◌≤◌, length, All, IfOk};
-ghost use Rattle.hk_model.specs.Problems.{IsConstraint, IsDomain, IsLinear, IsScope, IsWithin};
+//! Rows: the answers of small problems, and of the least and the greatest number of variables.
 
 use crate::{answer_text, search_plain};
 use hk_base::{Bytes, List};
-use hk_model::limits::COEFFICIENT;
-use hk_model::{Constraint, Constraints, Linear, Names, Problem, judge};
+use hk_model::{Problem, judge, read_model};
+use hk_text::push_number;
 use std::alloc::{AllocError, Global};
 use std::test::Fail;
 
-/// The names of so many of the variables `x`, `y` and `z`.
-fn first_names(alloc: Global, count: u16) -> Result<Names, AllocError>
-    requires { count ≤ 3 }
-    ensures named { IfOk result (λ names. length names ≡ count) }
-    ensures short { IfOk result (All (λ name. length name ≤ 32)) }
-{
-    let mut names = Names::new(alloc);
-    for variable in 0..count {
-        let mut name = Bytes::new(alloc);
-        name.push(b'x' + variable as u8)?;
-        names.push(name)?;
+/// Two variables of which one is 1, where the first being 1 is worth 1.
+const WORTH: &str = "hkm 1\nvar x in 0..1\nvar y in 0..1\nsum (1*x, 1*y) 1..1\nminimize (-1*x)\n";
+
+/// The same, where both cost 1.
+const EQUAL: &str =
+    "hkm 1\nvar x in 0..1\nvar y in 0..1\nsum (1*x, 1*y) 1..1\nminimize (1*x, 1*y)\n";
+
+const PAIR: &str = "hkm 1\nvar x in 0..1\nvar y in 0..1\nalldifferent (x, y)\n";
+
+const THREE: &str = "hkm 1\nvar x in 0..1\nvar y in 0..1\nvar z in 0..1\nalldifferent (x, y, z)\n";
+
+/// The problem that a model spells, where it spells one.
+fn spelled(alloc: Global, model: &[u8]) -> Option<Problem> {
+    if model.len() > 1_048_576 {
+        return None;
     }
-    Ok(names)
+    read_model(alloc, model).ok()
 }
 
-/// So many sets of the values 0 and 1.
-fn pairs(alloc: Global, count: u16) -> Result<List<u128>, AllocError>
-    ensures each { IfOk result (λ domains. length domains ≡ count) }
-    ensures domains { IfOk result (All IsDomain) }
-{
-    let mut domains = List::new(alloc);
-    for _ in 0..count {
-        domains.push(0b11)?;
-    }
-    Ok(domains)
-}
-
-/// The scope of the first variables.
-fn first_variables(alloc: Global, count: u16) -> Result<List<u16>, AllocError>
-    requires { 0 < count }
-    ensures scope { IfOk result (IsScope count) }
-    ensures each { IfOk result (λ scope. length scope ≡ count) }
-{
-    let mut scope = List::new(alloc);
-    for variable in 0..count {
-        scope.push(variable)?;
-    }
-    Ok(scope)
-}
-
-/// So many of the variables `x`, `y` and `z`, each 0 or 1, with pairwise distinct values.
-fn distinct(alloc: Global, count: u16) -> Result<Problem, AllocError>
-    requires { count ≤ 3 }
-    ensures { IfOk result (λ problem. length problem.domains ≡ count) }
-{
-    let names = first_names(alloc, count)?;
-    let domains = pairs(alloc, count)?;
-    let mut constraints = Constraints::new(alloc);
-    if count == 0 {
-        return Ok(Problem::new(names, domains, constraints, None));
-    }
-    let scope = first_variables(alloc, count)?;
-    constraints.push(Constraint::AllDifferent { scope })?;
-    Ok(Problem::new(names, domains, constraints, None))
-}
-
-/// The sum of `x` and `y` with two coefficients.
-fn sum_of(alloc: Global, coefs: [i64; 2]) -> Result<Linear, AllocError>
-    requires { All (IsWithin COEFFICIENT) coefs }
-    ensures { IfOk result (λ linear. IsLinear 2 linear.scope linear.coefs) }
-{
-    let scope = first_variables(alloc, 2)?;
-    let mut all = List::new(alloc);
-    all.push_all(&coefs)?;
-    Ok(Linear { scope, coefs: all })
-}
-
-/// That one of `x` and `y` is 1.
-fn one_of_both(alloc: Global) -> Result<Constraints, AllocError>
-    ensures few { IfOk result (λ constraints. length constraints ≡ 1) }
-    ensures fit { IfOk result (All (IsConstraint 2)) }
-{
-    let Linear { scope, coefs } = sum_of(alloc, [1, 1])?;
-    let mut constraints = Constraints::new(alloc);
-    constraints.push(Constraint::Sum {
-        scope,
-        coefs,
-        least: 1,
-        most: 1,
-    })?;
-    Ok(constraints)
-}
-
-/// The variables `x` and `y`, each 0 or 1, of which one is 1, with the objective of these
-/// coefficients.
-fn one_of_two(alloc: Global, coefs: [i64; 2]) -> Result<Problem, AllocError>
-    requires { All (IsWithin COEFFICIENT) coefs }
-    ensures { IfOk result (λ problem. length problem.domains ≡ 2) }
-{
-    let names = first_names(alloc, 2)?;
-    let domains = pairs(alloc, 2)?;
-    let constraints = one_of_both(alloc)?;
-    let objective = sum_of(alloc, coefs)?;
-    Ok(Problem::new(names, domains, constraints, Some(objective)))
-}
-
-/// Whether the answer of that problem has this text.
-fn answers(alloc: Global, coefs: [i64; 2], text: &str) -> Result<bool, AllocError>
-    requires { All (IsWithin COEFFICIENT) coefs }
-{
-    let problem = one_of_two(alloc, coefs)?;
+/// The text of the answer of the problem that a model spells, and nothing where it spells none.
+fn answer_of(alloc: Global, model: &[u8]) -> Result<Bytes, AllocError> {
+    let mut text = List::new(alloc);
+    let Some(problem) = spelled(alloc, model) else {
+        return Ok(text);
+    };
     let found = search_plain(alloc, &problem)?;
-    let mut out = Bytes::new(alloc);
-    answer_text(&problem, &found, &mut out)?;
-    Ok(out.as_slice() == text.as_bytes())
+    answer_text(&problem, &found, &mut text)?;
+    Ok(text)
+}
+
+/// A first line, and so many lines of a number from 0 on between these texts.
+fn lines(
+    alloc: Global,
+    first: &str,
+    before: &str,
+    after: &str,
+    count: u16,
+) -> Result<Bytes, AllocError> {
+    let mut text = List::new(alloc);
+    text.push_all(first.as_bytes())?;
+    for number in 0..count {
+        text.push_all(before.as_bytes())?;
+        push_number(&mut text, i64::from(number))?;
+        text.push_all(after.as_bytes())?;
+    }
+    Ok(text)
 }
 
 #[test]
-fn least_costs(rt: HostRuntime) -> Result<(), Fail> {
-    assert!(rt; answers(rt.alloc(), [1, 1], "optimal 1\nx 0\ny 1\n")?);
-    assert!(rt; answers(rt.alloc(), [-1, 0], "optimal -1\nx 1\ny 0\n")?);
-    Ok(())
-}
-
-#[test]
-fn judged_costs(rt: HostRuntime) -> Result<(), Fail> {
-    let negative = one_of_two(rt.alloc(), [-1, 0])?;
-    assert_eq!(rt; judge(rt.alloc(), &negative, &[1, 0])?, Some(-1));
-    assert_eq!(rt; judge(rt.alloc(), &negative, &[1, 1])?, None);
-    Ok(())
-}
-
-#[test]
-fn first_solutions(rt: HostRuntime) -> Result<(), Fail> {
+fn answers_are_the_first_of_least_cost(rt: HostRuntime) -> Result<(), Fail> {
     let rows = [
-        (0, "solution\n"),
-        (2, "solution\nx 0\ny 1\n"),
-        (3, "infeasible\n"),
+        (PAIR, "solution\nx 0\ny 1\n"),
+        (THREE, "infeasible\n"),
+        (EQUAL, "optimal 1\nx 0\ny 1\n"),
+        (WORTH, "optimal -1\nx 1\ny 0\n"),
     ];
-    for (count, text) in rows {
-        assert!(rt; count <= 3);
-        let problem = distinct(rt.alloc(), count)?;
-        let found = search_plain(rt.alloc(), &problem)?;
-        let mut out = Bytes::new(rt.alloc());
-        answer_text(&problem, &found, &mut out)?;
-        assert_eq!(rt; out.as_slice(), text.as_bytes());
+    for (model, text) in rows {
+        let answer = answer_of(rt.alloc(), model.as_bytes())?;
+        assert_eq!(rt; answer.as_slice(), text.as_bytes(), "{model}");
+    }
+    for count in [0, 1, 256] {
+        let model = lines(rt.alloc(), "hkm 1\n", "var x", " in 0..1\n", count)?;
+        let text = lines(rt.alloc(), "solution\n", "x", " 0\n", count)?;
+        let answer = answer_of(rt.alloc(), model.as_slice())?;
+        assert_eq!(rt; answer.as_slice(), text.as_slice(), "{count} variables");
     }
     Ok(())
 }
 
 #[test]
-fn judged_values(rt: HostRuntime) -> Result<(), Fail> {
-    let problem = distinct(rt.alloc(), 2)?;
-    assert_eq!(rt; judge(rt.alloc(), &problem, &[0, 1])?, Some(0));
-    assert_eq!(rt; judge(rt.alloc(), &problem, &[1, 1])?, None);
+fn judges_values(rt: HostRuntime) -> Result<(), Fail> {
+    let rows = [
+        (WORTH, [1, 0], Some(-1)),
+        (WORTH, [1, 1], None),
+        (PAIR, [0, 1], Some(0)),
+        (PAIR, [1, 1], None),
+    ];
+    for (model, values, cost) in rows {
+        let Some(problem) = spelled(rt.alloc(), model.as_bytes()) else {
+            assert!(rt; false, "{model}");
+            return Ok(());
+        };
+        assert!(rt; problem.domains().len() == 2 && values[0] < 2 && values[1] < 2);
+        assert_eq!(rt; judge(rt.alloc(), &problem, &values)?, cost, "{model}");
+    }
     Ok(())
 }

@@ -1,3 +1,5 @@
+//! What a search found, as a text.
+
 ghost use Rattle.std.specs.Prelude.{◌≡◌, ◌++◌, OnOk, OnErr};
 ghost use Rattle.hk_base.specs.Lists.{AppendsFront};
 ghost use Rattle.hk_search.specs.AnswerTexts.{finding_text, first_line, optimal_line, answer_lines, answer_line};

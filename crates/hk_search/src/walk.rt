@@ -1,9 +1,11 @@
+//! The search: a walk through the assignments, in their order.
+
 ghost use Rattle.std.specs.Prelude.{◌≡◌, ◌<◌, ◌↔◌, IfOk, IfSome, IsTrue, OnOk};
 ghost use Rattle.hk_base.specs.Lists.{IsFrontOf};
 ghost use Rattle.hk_base.specs.Sets.{Has};
 ghost use Rattle.hk_model.specs.Solutions.{cost_of};
 ghost use Rattle.hk_search.specs.Findings.{IsFinding};
-ghost use Rattle.hk_search.specs.Walks.{IsBegun, IsBestAfter};
+ghost use Rattle.hk_search.specs.inside.Walks.{IsBegun, IsBestAfter};
 
 use crate::best::{is_settled, offer};
 use crate::found::Found;

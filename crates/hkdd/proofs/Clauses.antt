@@ -9,9 +9,9 @@ use Rattle.hk_model.specs.Models.{Spells}
 use Rattle.hk_model.specs.Refused.{IsRefusal}
 use Rattle.hk_model.proofs.Outcomes.{one_problem, no_refusal, one_refusal}
 use Rattle.hk_search.specs.AnswerTexts.{IsAnswerText}
-use Rattle.hkdd.specs.declared.limits.TheConstants.{MODEL_BYTES}
+use Rattle.hkdd.specs.Limits.{most_bytes}
 use Rattle.hkdd.specs.Texts.{usage_text, refusal_text, too_large_text}
-use Rattle.hkdd.specs.Runs.{IsSolve, AreNoCommand, WereRead, IsReply, reply_answer, reply_refusal, reply_too_large, due_usage, due_reply, due_read_fault, IsOut, Ends, ends_whole, ends_write_fault, ends_no_memory, IsStopped, stopped_reading, stopped_writing, stopped_by_memory, Printed, PrintedAnswer, SolvesFile, IsRefused, Ran}
+use Rattle.hkdd.specs.Runs.{IsSolve, AreNoCommand, WereRead, IsReply, reply_answer, reply_refusal, reply_too_large, due_usage, due_reply, due_read_fault, IsOut, Ends, ends_whole, ends_write_fault, ends_no_memory, IsStopped, stopped_reading, stopped_writing, stopped_by_memory, Printed, PrintedAnswer, SolvesFile, IsRefused, Takes, Ran}
 
 -- one command names one file
 one_file : {words : List (List ℕ)} {a b : List ℕ} → IsSolve words a → IsSolve words b → a ≡ b
@@ -36,14 +36,14 @@ longer_whole : (n : ℕ) (bytes whole : List ℕ) → bytes ≡ take (n + 1) who
 longer_whole n bytes whole same long = grind (arith, ap length same, take_all (n + 1) whole)
 
 -- the bytes that a reply is about, by those that are told
-told_bytes : {words : List (List ℕ)} {old : View} {file bytes whole : List ℕ} → IsSolve words file → WereRead old file bytes → SolvesFile words old whole → bytes ≡ take (MODEL_BYTES + 1) whole
+told_bytes : {words : List (List ℕ)} {old : View} {file bytes whole : List ℕ} → IsSolve words file → WereRead old file bytes → SolvesFile words old whole → bytes ≡ take (most_bytes + 1) whole
 told_bytes {old = old} solve were solves = were _ (ap old.told (one_file solve solves.solve) ∙ solves.told)
 
 -- what was read of a file that isn't too long is all of it
-all_read : {words : List (List ℕ)} {old : View} {file bytes whole : List ℕ} → IsSolve words file → WereRead old file bytes → SolvesFile words old whole → length whole ≤ MODEL_BYTES → bytes ≡ whole
-all_read {bytes = bytes} {whole = whole} solve were solves short = read_whole MODEL_BYTES bytes whole (told_bytes solve were solves) short
+all_read : {words : List (List ℕ)} {old : View} {file bytes whole : List ℕ} → IsSolve words file → WereRead old file bytes → SolvesFile words old whole → length whole ≤ most_bytes → bytes ≡ whole
+all_read {bytes = bytes} {whole = whole} solve were solves short = read_whole most_bytes bytes whole (told_bytes solve were solves) short
 
-answer_of : {bytes whole text : List ℕ} {status : ℕ} {old new : View} (problem : PlainProblem) → bytes ≡ whole → length whole ≤ MODEL_BYTES → Spells whole problem → IsReply bytes status text → IsOut old new text → PrintedAnswer problem old status new
+answer_of : {bytes whole text : List ℕ} {status : ℕ} {old new : View} (problem : PlainProblem) → bytes ≡ whole → length whole ≤ most_bytes → Spells whole problem → IsReply bytes status text → IsOut old new text → PrintedAnswer problem old status new
 answer_of {bytes = bytes} problem same short spells (reply_answer {text = text} {problem = other} _ spelled is) out = record {
   text = text;
   is_answer = subst (λ p. IsAnswerText p text) (one_problem bytes other problem spelled (subst (λ b. Spells b problem) (sym same) spells)) is;
@@ -53,7 +53,7 @@ answer_of {bytes = bytes} problem same short spells (reply_refusal {line = line}
     absurd (no_refusal bytes problem line kind (subst (λ b. Spells b problem) (sym same) spells) refused)
 answer_of problem same short spells (reply_too_large long) out = absurd (omega (arith, ap length same))
 
-solves : {words : List (List ℕ)} {old new : View} {result : ℕ} (bytes : List ℕ) (problem : PlainProblem) → Ends words old result new → SolvesFile words old bytes → length bytes ≤ MODEL_BYTES → Spells bytes problem → PrintedAnswer problem old result new ⊎ IsStopped old new result
+solves : {words : List (List ℕ)} {old new : View} {result : ℕ} (bytes : List ℕ) (problem : PlainProblem) → Ends words old result new → SolvesFile words old bytes → length bytes ≤ most_bytes → Spells bytes problem → PrintedAnswer problem old result new ⊎ IsStopped old new result
 solves bytes problem (ends_whole (due_usage unknown) out) file short spells = absurd (unknown file.file file.solve)
 solves bytes problem (ends_whole (due_reply solve were reply) out) file short spells =
     inl (answer_of problem (all_read solve were file short) short spells reply out)
@@ -61,7 +61,7 @@ solves bytes problem (ends_whole (due_read_fault solve rose) out) file short spe
 solves bytes problem (ends_write_fault due front rose) file short spells = inr (stopped_writing rose)
 solves bytes problem (ends_no_memory out) file short spells = inr stopped_by_memory
 
-refusal_of : {bytes whole text : List ℕ} {status : ℕ} {old new : View} (line : ℕ) (kind : RefusalKind) → bytes ≡ whole → length whole ≤ MODEL_BYTES → IsRefusal whole line kind → IsReply bytes status text → IsOut old new text → Printed 3 (refusal_text line kind) old status new
+refusal_of : {bytes whole text : List ℕ} {status : ℕ} {old new : View} (line : ℕ) (kind : RefusalKind) → bytes ≡ whole → length whole ≤ most_bytes → IsRefusal whole line kind → IsReply bytes status text → IsOut old new text → Printed 3 (refusal_text line kind) old status new
 refusal_of {bytes = bytes} line kind same short refused (reply_answer {problem = problem} _ spelled is) out =
     absurd (no_refusal bytes problem line kind spelled (subst (λ b. IsRefusal b line kind) (sym same) refused))
 refusal_of {bytes = bytes} {old = old} {new = new} line kind same short refused (reply_refusal {line = other} {kind = another} _ was) out =
@@ -72,7 +72,7 @@ refusal_of {bytes = bytes} {old = old} {new = new} line kind same short refused 
     }
 refusal_of line kind same short refused (reply_too_large long) out = absurd (omega (arith, ap length same))
 
-refuses : {words : List (List ℕ)} {old new : View} {result : ℕ} (bytes : List ℕ) (line : ℕ) (kind : RefusalKind) → Ends words old result new → SolvesFile words old bytes → length bytes ≤ MODEL_BYTES → IsRefusal bytes line kind → Printed 3 (refusal_text line kind) old result new ⊎ IsStopped old new result
+refuses : {words : List (List ℕ)} {old new : View} {result : ℕ} (bytes : List ℕ) (line : ℕ) (kind : RefusalKind) → Ends words old result new → SolvesFile words old bytes → length bytes ≤ most_bytes → IsRefusal bytes line kind → Printed 3 (refusal_text line kind) old result new ⊎ IsStopped old new result
 refuses bytes line kind (ends_whole (due_usage unknown) out) file short refused = absurd (unknown file.file file.solve)
 refuses bytes line kind (ends_whole (due_reply solve were reply) out) file short refused =
     inl (refusal_of line kind (all_read solve were file short) short refused reply out)
@@ -80,15 +80,15 @@ refuses bytes line kind (ends_whole (due_read_fault solve rose) out) file short 
 refuses bytes line kind (ends_write_fault due front rose) file short refused = inr (stopped_writing rose)
 refuses bytes line kind (ends_no_memory out) file short refused = inr stopped_by_memory
 
-longer_of : {bytes text : List ℕ} {status : ℕ} {old new : View} → MODEL_BYTES < length bytes → IsReply bytes status text → IsOut old new text → Printed 8 too_large_text old status new
+longer_of : {bytes text : List ℕ} {status : ℕ} {old new : View} → most_bytes < length bytes → IsReply bytes status text → IsOut old new text → Printed 8 too_large_text old status new
 longer_of long (reply_answer short spelled is) out = absurd (omega arith)
 longer_of long (reply_refusal short was) out = absurd (omega arith)
 longer_of long (reply_too_large _) out = record { ended = refl; out = out }
 
-too_large : {words : List (List ℕ)} {old new : View} {result : ℕ} (bytes : List ℕ) → Ends words old result new → SolvesFile words old bytes → MODEL_BYTES < length bytes → Printed 8 too_large_text old result new ⊎ IsStopped old new result
+too_large : {words : List (List ℕ)} {old new : View} {result : ℕ} (bytes : List ℕ) → Ends words old result new → SolvesFile words old bytes → most_bytes < length bytes → Printed 8 too_large_text old result new ⊎ IsStopped old new result
 too_large bytes (ends_whole (due_usage unknown) out) file long = absurd (unknown file.file file.solve)
 too_large bytes (ends_whole (due_reply {bytes = were} solve told reply) out) file long =
-    inl (longer_of (read_longer MODEL_BYTES were bytes (told_bytes solve told file) long) reply out)
+    inl (longer_of (read_longer most_bytes were bytes (told_bytes solve told file) long) reply out)
 too_large bytes (ends_whole (due_read_fault solve rose) out) file long = inr (stopped_reading rose)
 too_large bytes (ends_write_fault due front rose) file long = inr (stopped_writing rose)
 too_large bytes (ends_no_memory out) file long = inr stopped_by_memory
@@ -107,22 +107,22 @@ not_replied (reply_refusal short was) some not_three not_eight = not_three refl
 not_replied (reply_too_large long) some not_three not_eight = not_eight refl
 
 -- bytes of which a reply says 3 are refused, and those of which it says 8 are too many
-refused_by : {bytes text : List ℕ} {status : ℕ} (whole : List ℕ) → IsReply bytes status text → status ≡ 3 → bytes ≡ take (MODEL_BYTES + 1) whole → IsRefused whole
+refused_by : {bytes text : List ℕ} {status : ℕ} (whole : List ℕ) → IsReply bytes status text → status ≡ 3 → bytes ≡ take (most_bytes + 1) whole → IsRefused whole
 refused_by whole (reply_answer short spelled is) three same = absurd (omega arith)
 refused_by {bytes = bytes} whole (reply_refusal {line = line} {kind = kind} short was) three same =
-    let fits = read_shorter MODEL_BYTES bytes whole same short in
+    let fits = read_shorter most_bytes bytes whole same short in
     record {
       short = fits;
       line = line;
       kind = kind;
-      refusal = subst (λ b. IsRefusal b line kind) (read_whole MODEL_BYTES bytes whole same fits) was;
+      refusal = subst (λ b. IsRefusal b line kind) (read_whole most_bytes bytes whole same fits) was;
     }
 refused_by whole (reply_too_large long) three same = absurd (omega arith)
 
-larger_by : {bytes text : List ℕ} {status : ℕ} (whole : List ℕ) → IsReply bytes status text → status ≡ 8 → bytes ≡ take (MODEL_BYTES + 1) whole → MODEL_BYTES < length whole
+larger_by : {bytes text : List ℕ} {status : ℕ} (whole : List ℕ) → IsReply bytes status text → status ≡ 8 → bytes ≡ take (most_bytes + 1) whole → most_bytes < length whole
 larger_by whole (reply_answer short spelled is) eight same = absurd (omega arith)
 larger_by whole (reply_refusal short was) eight same = absurd (omega arith)
-larger_by {bytes = bytes} whole (reply_too_large long) eight same = longer_whole MODEL_BYTES bytes whole same long
+larger_by {bytes = bytes} whole (reply_too_large long) eight same = longer_whole most_bytes bytes whole same long
 
 refused_alone : {words : List (List ℕ)} {old new : View} {result : ℕ} (bytes : List ℕ) → Ends words old result new → result ≡ 3 → SolvesFile words old bytes → IsRefused bytes
 refused_alone bytes (ends_whole (due_usage unknown) out) three file = absurd (omega arith)
@@ -131,7 +131,7 @@ refused_alone bytes (ends_whole (due_read_fault solve rose) out) three file = ab
 refused_alone bytes (ends_write_fault due front rose) three file = absurd (omega arith)
 refused_alone bytes (ends_no_memory out) three file = absurd (omega arith)
 
-too_large_alone : {words : List (List ℕ)} {old new : View} {result : ℕ} (bytes : List ℕ) → Ends words old result new → result ≡ 8 → SolvesFile words old bytes → MODEL_BYTES < length bytes
+too_large_alone : {words : List (List ℕ)} {old new : View} {result : ℕ} (bytes : List ℕ) → Ends words old result new → result ≡ 8 → SolvesFile words old bytes → most_bytes < length bytes
 too_large_alone bytes (ends_whole (due_usage unknown) out) eight file = absurd (omega arith)
 too_large_alone bytes (ends_whole (due_reply solve were reply) out) eight file = larger_by bytes reply eight (told_bytes solve were file)
 too_large_alone bytes (ends_whole (due_read_fault solve rose) out) eight file = absurd (omega arith)
@@ -166,10 +166,11 @@ no_memory (ends_whole (due_read_fault solve rose) out) seven = absurd (omega ari
 no_memory (ends_write_fault due front rose) seven = absurd (omega arith)
 no_memory (ends_no_memory out) seven = out
 
--- all that is known of a run follows from how it ended
-pub ran : {words : List (List ℕ)} {old new : View} {result : ℕ} → Ends words old result new → Ran words old result new
-ran ends = record {
+-- all that is known of a run follows from how it ended, and from what it took
+pub ran : {words : List (List ℕ)} {old new : View} {result : ℕ} → Ends words old result new → Takes words old new → Ran words old result new
+ran ends takes = record {
   ends = ends;
+  takes = takes;
   solves = λ bytes problem. solves bytes problem ends;
   refuses = λ bytes line kind. refuses bytes line kind ends;
   refused_alone = λ three bytes. refused_alone bytes ends three;

@@ -5,7 +5,7 @@ use Rattle.hk_base.specs.declared.host.Slot.{Slot}
 use Rattle.hk_base.specs.declared.host.Slot.TheVariants.{CertOut, Out}
 use Rattle.hk_base.specs.Hosts.{View, SameOutside, ReadFaulted, WriteFaulted, Wrote, WroteFront, appended}
 use Rattle.hk_base.proofs.HostLaws.{SameOutside-same, Wrote-told, ReadFaulted-then, then-WriteFaulted}
-use Rattle.hkdd.specs.Readings.{KeepsOutput}
+use Rattle.hkdd.specs.inside.Readings.{KeepsOutput}
 use Rattle.hkdd.specs.Texts.{usage_text, read_fault_text}
 use Rattle.hkdd.specs.Runs.{IsSolve, AreNoCommand, IsFresh, IsDue, due_usage, due_reply, due_read_fault, IsOut, Ends, ends_whole, ends_write_fault, ends_no_memory}
 

@@ -3,4 +3,5 @@ pub mod Endings
 pub mod Pieces
 pub mod Replies
 pub mod SystemLaws
+pub mod Takings
 pub mod Words

@@ -1,20 +1,21 @@
 -- Pieces of the model, read one after the other.
-use Rattle.std.proofs.Common.{◌≡◌, ◌∙◌, sym, refl, ap, subst, inl, inr, arith, ℕ, ◌+◌, ◌≤◌, List, [], ◌++◌, length, take, append-nil}
-use Rattle.std.specs.Prelude.{◌⊎◌, Option, Some, None}
-use Rattle.hk_base.specs.declared.host.Slot.{Slot}
+use Rattle.std.proofs.Common.{◌≡◌, ◌∙◌, sym, refl, ap, subst, inl, inr, arith, ℕ, ◌+◌, ◌≤◌, List, [], ◌++◌, length, length-append, length-take, take, append-nil}
+use Rattle.std.specs.Prelude.{◌⊎◌, Option, Some, None, Result, Ok, Err}
 use Rattle.hk_base.specs.declared.host.Slot.TheVariants.{Model}
 use Rattle.std.proofs.Math.Seq.{take-append_seam}
 use Rattle.std.proofs.lemmas.List.{take_all}
-use Rattle.hk_base.specs.Hosts.{View, Took, Opened, CanRead, prepended}
-use Rattle.hk_base.proofs.SlotLaws.{changed-at}
-use Rattle.hk_base.proofs.HostLaws.{Took-none, Took-then, Took-told, CanRead-after, SameOutside-then}
-use Rattle.hkdd.specs.declared.limits.TheConstants.{MODEL_BYTES}
-use Rattle.hkdd.specs.Readings.{IsRead, TakesPiece, TakesAll}
+use Rattle.hk_base.specs.declared.host.Failed.{Failed}
+use Rattle.hk_base.specs.Hosts.{View, Took, Reads, Opened, CanRead, prepended}
+use Rattle.hk_base.proofs.HostLaws.{Took-nil, Took-none, Took-then, Took-told, CanRead-after}
+use Rattle.hkdd.specs.Limits.{most_bytes}
+use Rattle.hkdd.specs.inside.Readings.{TakesPiece, TakesAll, TookFew}
+use Rattle.hkdd.specs.Runs.{WereRead}
+use Rattle.hkdd.proofs.Takings.{told_at_opening}
 
 -- what was read so far
 pub record Reached (old now : View) (text : List ℕ) : Type 0 where
   pub took : Took Model text old now
-  pub within : length text ≤ MODEL_BYTES + 1
+  pub within : length text ≤ most_bytes + 1
   pub can_read : CanRead now Model
 
 pub begins : (old : View) → CanRead old Model → Reached old old []
@@ -26,6 +27,35 @@ goes_on old now next text more count so_far piece = record {
       subst P (sym piece.appended) (Took-then Model text piece.added old now next so_far.took piece.took);
   within = piece.within;
   can_read = CanRead-after now next Model piece.took.opened so_far.can_read;
+}
+
+-- what was taken so far is no more than may be
+pub TookFew-reached : (old now : View) (text : List ℕ) → Reached old now text → TookFew [] old now
+TookFew-reached old now text so_far = record {
+  taken = text;
+  took = so_far.took;
+  few = let within = so_far.within in omega arith;
+}
+
+-- what was taken so far, and of the next piece
+pub TookFew-then : (old now new : View) (text : List ℕ) → Reached old now text → TookFew text now new → TookFew [] old new
+TookFew-then old now new text so_far piece = record {
+  taken = text ++ piece.taken;
+  took = Took-then Model text piece.taken old now new so_far.took piece.took;
+  few = let few = piece.few in omega (arith, length-append text piece.taken);
+}
+
+-- a reading took no more than its buffer has room for, whatever it answers
+pub TookFew-reads : (before : List ℕ) (old : View) (answer : Result ℕ Failed) (buffer : List ℕ) (new : View) → length before + length buffer ≤ most_bytes + 1 → Reads old Model answer buffer new → TookFew before old new
+TookFew-reads before old (Ok count) buffer new room reads = record {
+  taken = take count buffer;
+  took = reads.took;
+  few = let within = reads.within in grind (arith, length-take count buffer);
+}
+TookFew-reads before old (Err failed) buffer new room reads = record {
+  taken = [];
+  took = Took-nil Model old new reads.moved_nothing;
+  few = omega arith;
 }
 
 -- bytes that are all, or as many as are wanted, are the front of that many
@@ -44,13 +74,7 @@ were_read n whole bytes (Some rest) within (inr all) told =
     front_of n bytes rest within (inr all) ∙ ap (take n) (sym same)
 
 -- a file that was opened, and whose bytes were then taken, was read
-pub is_read : (file : List ℕ) (old between new : View) (bytes : List ℕ) → Opened Model file old between → TakesAll between new bytes → IsRead file old new bytes
-is_read file old between new bytes opened takes = record {
-  keeps = record {
-    outside = SameOutside-then old between new opened.outside takes.took.outside;
-    written = takes.took.written ∙ opened.written;
-  };
-  read = λ whole told.
-      were_read (MODEL_BYTES + 1) whole bytes (new.left Model) takes.within takes.enough
-      (sym told ∙ sym (ap (λ (had : Slot → Option (List ℕ)). had Model) opened.left ∙ changed-at old.left Model (old.told file)) ∙ Took-told Model bytes between new takes.took);
-}
+pub WereRead-taken : (file : List ℕ) (old between new : View) (bytes : List ℕ) → Opened Model file old between → TakesAll between new bytes → WereRead old file bytes
+WereRead-taken file old between new bytes opened takes = λ whole told.
+    were_read (most_bytes + 1) whole bytes (new.left Model) takes.within takes.enough
+    (sym told ∙ sym (told_at_opening file old between opened) ∙ Took-told Model bytes between new takes.took)

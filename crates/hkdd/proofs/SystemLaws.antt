@@ -95,6 +95,7 @@ module _ (model cert_in cert_out : Bool) (reads writes : ℕ) where
       left = refl;
       written = sym (changed-same (λ _. None) slot);
     };
+    quiet = same;
     moved_nothing = tt;
     faulted = tt;
   }
@@ -102,6 +103,7 @@ module _ (model cert_in cert_out : Bool) (reads writes : ℕ) where
     some = tt;
     within = tt;
     wrote = tt;
+    quiet = tt;
     moved_nothing = write_fault_moves writes' higher;
     faulted = higher.rose;
   }

@@ -8,7 +8,8 @@ use Rattle.hk_model.specs.Problems.{PlainProblem}
 use Rattle.hk_model.specs.Models.{Spells}
 use Rattle.hk_model.specs.Refused.{IsRefusal}
 use Rattle.hk_search.specs.AnswerTexts.{IsAnswerText}
-use Rattle.hkdd.specs.declared.limits.TheConstants.{MODEL_BYTES}
+use Rattle.hkdd.specs.Inputs.{KeepsInputs, TakesAtMost}
+use Rattle.hkdd.specs.Limits.{most_bytes}
 use Rattle.hkdd.specs.Texts.{usage_text, read_fault_text, refusal_text, too_large_text}
 
 -- the words are `solve` and the name of a file
@@ -30,15 +31,15 @@ LendsNames host words = (file : List ℕ) → IsSolve words file → IsTrue (hos
 
 -- these bytes were read of a file: where its bytes are told, all of them or, of a longer one, as many as show that it is too long
 abbrev pub WereRead : View → List ℕ → List ℕ → Type 0
-WereRead host file bytes = (whole : List ℕ) → host.told file ≡ Some whole → bytes ≡ take (MODEL_BYTES + 1) whole
+WereRead host file bytes = (whole : List ℕ) → host.told file ≡ Some whole → bytes ≡ take (most_bytes + 1) whole
 
 -- what `solve` says of the bytes that were read: a status and a text
 pub data IsReply : List ℕ → ℕ → List ℕ → Type 0 where
   reply_answer : {bytes text : List ℕ} {problem : PlainProblem}
-      → length bytes ≤ MODEL_BYTES → Spells bytes problem → IsAnswerText problem text → IsReply bytes 0 text
+      → length bytes ≤ most_bytes → Spells bytes problem → IsAnswerText problem text → IsReply bytes 0 text
   reply_refusal : {bytes : List ℕ} {line : ℕ} {kind : RefusalKind}
-      → length bytes ≤ MODEL_BYTES → IsRefusal bytes line kind → IsReply bytes 3 (refusal_text line kind)
-  reply_too_large : {bytes : List ℕ} → MODEL_BYTES < length bytes → IsReply bytes 8 too_large_text
+      → length bytes ≤ most_bytes → IsRefusal bytes line kind → IsReply bytes 3 (refusal_text line kind)
+  reply_too_large : {bytes : List ℕ} → most_bytes < length bytes → IsReply bytes 8 too_large_text
 
 -- the status and the text that are due, and why
 pub data IsDue (words : List (List ℕ)) (old new : View) : ℕ → List ℕ → Type 0 where
@@ -90,23 +91,32 @@ pub record SolvesFile (words : List (List ℕ)) (host : View) (bytes : List ℕ)
 
 -- the bytes are no more than a model may have, and a line of them is refused
 pub record IsRefused (bytes : List ℕ) : Type 0 where
-  pub short : length bytes ≤ MODEL_BYTES
+  pub short : length bytes ≤ most_bytes
   pub line : ℕ
   pub kind : RefusalKind
   pub refusal : IsRefusal bytes line kind
+
+-- what a run takes of its inputs
+pub record Takes (words : List (List ℕ)) (old new : View) : Type 0 where
+  -- with words of no known form nothing is opened, and nothing taken
+  pub nothing : AreNoCommand words → KeepsInputs old new
+  -- with a file to solve nothing else is opened, and no more of it is gone than shows that it is too long
+  pub few : (file : List ℕ) → IsSolve words file → TakesAtMost (most_bytes + 1) file old new
 
 -- what is known of a run by its words, the host before it, its status and the host after it
 pub record Ran (words : List (List ℕ)) (old : View) (result : ℕ) (new : View) : Type 0 where
   -- how it ended, whatever the host tells
   pub ends : Ends words old result new
+  -- what it opened, and how much it took of it, however it ended
+  pub takes : Takes words old new
   -- a file that spells a problem is answered, unless the run was stopped
-  pub solves : (bytes : List ℕ) (problem : PlainProblem) → SolvesFile words old bytes → length bytes ≤ MODEL_BYTES → Spells bytes problem → PrintedAnswer problem old result new ⊎ IsStopped old new result
+  pub solves : (bytes : List ℕ) (problem : PlainProblem) → SolvesFile words old bytes → length bytes ≤ most_bytes → Spells bytes problem → PrintedAnswer problem old result new ⊎ IsStopped old new result
   -- a file that spells none is refused
-  pub refuses : (bytes : List ℕ) (line : ℕ) (kind : RefusalKind) → SolvesFile words old bytes → length bytes ≤ MODEL_BYTES → IsRefusal bytes line kind → Printed 3 (refusal_text line kind) old result new ⊎ IsStopped old new result
+  pub refuses : (bytes : List ℕ) (line : ℕ) (kind : RefusalKind) → SolvesFile words old bytes → length bytes ≤ most_bytes → IsRefusal bytes line kind → Printed 3 (refusal_text line kind) old result new ⊎ IsStopped old new result
   pub refused_alone : result ≡ 3 → (bytes : List ℕ) → SolvesFile words old bytes → IsRefused bytes
   -- a file that is too long is too large, and only such a file
-  pub too_large : (bytes : List ℕ) → SolvesFile words old bytes → MODEL_BYTES < length bytes → Printed 8 too_large_text old result new ⊎ IsStopped old new result
-  pub too_large_alone : result ≡ 8 → (bytes : List ℕ) → SolvesFile words old bytes → MODEL_BYTES < length bytes
+  pub too_large : (bytes : List ℕ) → SolvesFile words old bytes → most_bytes < length bytes → Printed 8 too_large_text old result new ⊎ IsStopped old new result
+  pub too_large_alone : result ≡ 8 → (bytes : List ℕ) → SolvesFile words old bytes → most_bytes < length bytes
   -- words of no known form get the usage text, and only these
   pub shows_usage : AreNoCommand words → Printed 2 usage_text old result new ⊎ IsStopped old new result
   pub usage_alone : result ≡ 2 → AreNoCommand words

@@ -2,7 +2,9 @@
 #![tactic(auto)]
 
 use hk_base::Gate;
-use std::env;
+use std::alloc::AllocError;
+use std::env::{self, Env};
+use std::io::ErrorKind;
 use std::process::ExitCode;
 use system::RealHost;
 
@@ -25,12 +27,21 @@ impl Gate for OpenGate {
 const NO_MEMORY: u8 = 7;
 
 fn main(rt: HostRuntime) -> ExitCode {
-    let Ok(all) = env::args(&rt) else {
-        return ExitCode::from(NO_MEMORY);
-    };
-    let Ok(words) = all.skip(1).collect::<Vec<String>>(rt.alloc()) else {
+    let Ok(words) = own_words(&rt) else {
         return ExitCode::from(NO_MEMORY);
     };
     let mut host = RealHost::new(&rt);
     ExitCode::from(run::run(&rt, rt.alloc(), words.as_slice(), &mut host, &OpenGate))
+}
+
+/// The words of the command line, without the program's own name. Fails only for want of memory.
+///
+/// The system gives all words or none: where one isn't UTF-8, be it the program's own name, there are
+/// none. No command is without words, so that such words get what is due to words of no known form.
+fn own_words<R: Env + AllocGlobal>(rt: &R) -> Result<Vec<String>, AllocError> {
+    match env::args(rt) {
+        Ok(all) => all.skip(1).collect::<Vec<String>>(rt.alloc()),
+        Err(error) if error.kind() == ErrorKind::InvalidData => Ok(Vec::new(rt.alloc())),
+        Err(_) => Err(AllocError),
+    }
 }

@@ -1,9 +1,12 @@
 //! The model's bytes, read in pieces.
 
-ghost use Rattle.std.specs.Prelude.{◌+◌, ◌<◌, ◌≤◌, length, IfOk, IfErr, OnOk, IsTrue};
+ghost use Rattle.std.specs.Prelude.{◌+◌, ◌<◌, ◌≤◌, [], length, IfOk, IfErr, OnOk, OnErr, IsTrue};
 ghost use Rattle.hk_base.specs.declared.host.Slot.TheVariants.{Model};
-ghost use Rattle.hk_base.specs.Hosts.{Opened, CanRead};
-ghost use Rattle.hkdd.specs.Readings.{IsRead, StoppedBy, TakesAll, TakesPiece};
+ghost use Rattle.hk_base.specs.Hosts.{MovedNothing, Opened, CanRead};
+ghost use Rattle.hkdd.specs.Inputs.{TakesAtMost};
+ghost use Rattle.hkdd.specs.Limits.{most_bytes};
+ghost use Rattle.hkdd.specs.inside.Readings.{KeepsOutput, StoppedBy, TakesAll, TakesPiece, TookFew};
+ghost use Rattle.hkdd.specs.Runs.{WereRead};
 
 use crate::limits::MODEL_BYTES;
 use hk_base::{Bytes, Host, List, Slot};
@@ -23,10 +26,13 @@ pub enum ReadError {
 }
 
 /// Opens a file as the model and reads it to its end, or up to the byte that shows that it is too
-/// long. Fails where the host can't open it or a reading fails, and for want of memory.
+/// long. Nothing else is opened, and no more is gone from the file afterwards. Fails where the host can't open
+/// it or a reading fails, and for want of memory.
 pub fn read_file<H: Host>(alloc: Global, host: &mut H, file: &str) -> Result<Bytes, ReadError>
     requires { IsTrue ((H.view host.old).lends Model file.now) }
-    ensures read { IfOk result (IsRead file.now (H.view host.old) (H.view host.new)) }
+    ensures keeps { KeepsOutput (H.view host.old) (H.view host.new) }
+    ensures few { TakesAtMost (most_bytes + 1) file.now (H.view host.old) (H.view host.new) }
+    ensures read { IfOk result (WereRead (H.view host.old) file.now) }
     ensures stopped { IfErr result (StoppedBy (H.view host.old) (H.view host.new)) }
 {
     let mut piece = make_piece(alloc).map_err(|_| ReadError::Memory)?;
@@ -39,6 +45,7 @@ pub fn read_file<H: Host>(alloc: Global, host: &mut H, file: &str) -> Result<Byt
 fn open_model<H: Host>(host: &mut H, file: &str) -> Result<(), ReadError>
     requires { IsTrue ((H.view host.old).lends Model file.now) }
     ensures opened { OnOk result (Opened Model file.now (H.view host.old) (H.view host.new)) }
+    ensures kept { OnErr result (MovedNothing (H.view host.old) (H.view host.new)) }
     ensures stopped { IfErr result (StoppedBy (H.view host.old) (H.view host.new)) }
 {
     host.open_slot(Slot::Model, file)
@@ -56,6 +63,7 @@ fn make_piece(alloc: Global) -> Result<Vec<u8>, AllocError>
 fn read_pieces<H: Host>(alloc: Global, host: &mut H, piece: &mut [u8]) -> Result<Bytes, ReadError>
     requires open { CanRead (H.view host.old) Model }
     requires room { 0 < length piece.old }
+    ensures few { TookFew [] (H.view host.old) (H.view host.new) }
     ensures took { IfOk result (TakesAll (H.view host.old) (H.view host.new)) }
     ensures stopped { IfErr result (StoppedBy (H.view host.old) (H.view host.new)) }
 {
@@ -73,7 +81,8 @@ fn read_pieces<H: Host>(alloc: Global, host: &mut H, piece: &mut [u8]) -> Result
 fn read_piece<H: Host>(host: &mut H, piece: &mut [u8], text: &mut Bytes) -> Result<usize, ReadError>
     requires open { CanRead (H.view host.old) Model }
     requires room { 0 < length piece.old }
-    requires short { length text.old ≤ MODEL_BYTES }
+    requires short { length text.old ≤ most_bytes }
+    ensures few { TookFew text.old (H.view host.old) (H.view host.new) }
     ensures took { IfOk result (TakesPiece (H.view host.old) (H.view host.new) text.old text.new) }
     ensures stopped { IfErr result (StoppedBy (H.view host.old) (H.view host.new)) }
 {

@@ -1,8 +1,8 @@
 //! A run of the program, from its words to its status.
 
 ghost use Rattle.std.specs.Prelude.{◌≡◌, map, string_bytes, IfOk, IfSome, IfNone};
-ghost use Rattle.hkdd.specs.Readings.{KeepsOutput};
-ghost use Rattle.hkdd.specs.Runs.{AreNoCommand, IsDue, IsFresh, IsSolve, LendsNames, Ran};
+ghost use Rattle.hkdd.specs.inside.Readings.{KeepsOutput};
+ghost use Rattle.hkdd.specs.Runs.{AreNoCommand, IsDue, IsFresh, IsSolve, LendsNames, Ran, Takes};
 
 use crate::due::{Due, read_fault, reply, usage};
 use crate::reading::{ReadError, read_file};
@@ -13,7 +13,8 @@ use std::thread::Threads;
 /// Runs the program on its words, without its own name, and answers its exit status.
 ///
 /// The one command is `solve FILE`: it reads a model of at most 1,048,576 bytes and prints its answer.
-/// The host lends FILE as the model, and nothing went out through it before.
+/// The host lends FILE as the model, and nothing went out through it before. Nothing but FILE is
+/// opened, and at most 1,048,577 bytes of it are gone after the run.
 ///
 /// | status | text on the output |
 /// |---|---|
@@ -53,6 +54,7 @@ pub fn run<R: Threads + Sync, H: Host, G: Gate + Sync>(
 fn decide<H: Host>(alloc: Global, words: &[String], host: &mut H) -> Result<Due, AllocError>
     requires { LendsNames (H.view host.old) (map string_bytes words.now) }
     ensures keeps { KeepsOutput (H.view host.old) (H.view host.new) }
+    ensures takes { Takes (map string_bytes words.now) (H.view host.old) (H.view host.new) }
     ensures due { IfOk result (λ due. IsDue (map string_bytes words.now) (H.view host.old) (H.view host.new) due.status due.text) }
 {
     let Some(file) = file_of(words) else {

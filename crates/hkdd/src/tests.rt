@@ -1,8 +1,9 @@
+//! Rows of runs over a host in memory: the words, the model, and the status and the text that are due.
+
 ghost use Rattle.std.specs.Prelude.{IfOk};
 ghost use Rattle.hk_base.specs.Memory.{view_of};
 ghost use Rattle.hkdd.specs.Runs.{IsFresh};
 
-use crate::limits::MODEL_BYTES;
 use crate::run::run;
 use hk_base::{CallKind, Gate, MemoryHost, Slot};
 use std::alloc::{AllocError, Global};
@@ -47,6 +48,142 @@ const NAIVE: &str =
     "hkm 1\nvar x in 0..1\nspec naive ()\ndown some SomeBits {}\ntest ((card(some) > i) or (v notin some))\nstep some (some | {v})\nend\npost naive () (x)\n";
 
 const TWICE: &str = "hkm 1\nvar x in 0..1\nvar x in 0..1\nalldifferent (x, y)\n";
+
+const COSTS: &str =
+    "# Two painters, Ann and Ben, and three jobs. Each job is given to one of the two; 1 stands for \"does it\".
+#
+# Shows: sums that count and that limit hours, and an objective.
+#
+# Prints:
+#   optimal 106
+#   ann_painting 0
+#   ben_painting 1
+#   ann_wiring 1
+#   ben_wiring 0
+#   ann_cleaning 1
+#   ben_cleaning 0
+
+hkm 1
+
+var ann_painting in 0..1
+var ben_painting in 0..1
+var ann_wiring in 0..1
+var ben_wiring in 0..1
+var ann_cleaning in 0..1
+var ben_cleaning in 0..1
+
+# each job is done by one of them
+sum (1*ann_painting, 1*ben_painting) 1..1
+sum (1*ann_wiring, 1*ben_wiring) 1..1
+sum (1*ann_cleaning, 1*ben_cleaning) 1..1
+
+# a job takes each of them so many hours, and nobody works more than eight
+sum (4*ann_painting, 5*ann_wiring, 2*ann_cleaning) 0..8
+sum (3*ben_painting, 6*ben_wiring, 2*ben_cleaning) 0..8
+
+# what it costs
+minimize (40*ann_painting, 36*ben_painting, 50*ann_wiring, 72*ben_wiring, 20*ann_cleaning, 24*ben_cleaning)
+";
+
+const DUTIES: &str =
+    "# A week of opening and closing duties at a branch. The value of a variable is a
+# weekday: 0 is Monday and 4 is Friday. Ann, Ben and Cleo each open on one day
+# and close on one day.
+#
+# Shows: several constraints about the same variables, and ranges that keep a
+# person to the days on which that person can come.
+#
+# Prints:
+#   solution
+#   ann_opens 0
+#   ann_closes 1
+#   ben_opens 1
+#   ben_closes 0
+#   cleo_opens 2
+#   cleo_closes 3
+
+hkm 1
+
+var ann_opens in 0..4
+var ann_closes in 0..1     # Ann can stay late on Monday and Tuesday only
+var ben_opens in 0..4
+var ben_closes in 0..4
+var cleo_opens in 1..3     # Cleo isn't there on Monday and on Friday
+var cleo_closes in 1..3
+
+# One person opens on a day, and one closes.
+alldifferent (ann_opens, ben_opens, cleo_opens)
+alldifferent (ann_closes, ben_closes, cleo_closes)
+
+# Nobody opens and closes on the same day.
+alldifferent (ann_opens, ann_closes)
+alldifferent (ben_opens, ben_closes)
+alldifferent (cleo_opens, cleo_closes)
+";
+
+const EARLY: &str =
+    "# Three things that happen one after the other, each at least one day after the one before.
+#
+# Shows: a constraint of the planner's own, which keeps the last value and tests each new one against it.
+#
+# Prints:
+#   solution
+#   first 0
+#   second 1
+#   third 2
+
+hkm 1
+
+var first in 0..3
+var second in 0..3
+var third in 0..3
+
+# each value is at least `gap` above the last one
+spec rise (num gap)
+down last Min -100
+test ((last + gap) <= v)
+step last v
+end
+
+post rise (1) (first, second, third)
+";
+
+const PAIRS: &str = "# Two lorries and two loading bays. The lorries are at the depot at the same
+# time, so that they need different bays.
+#
+# Shows: the header, a variable for each decision, and one constraint.
+#
+# Prints:
+#   solution
+#   lorry_a 0
+#   lorry_b 1
+
+hkm 1
+
+var lorry_a in 0..1    # bay 0 or bay 1
+var lorry_b in 0..1
+
+alldifferent (lorry_a, lorry_b)
+";
+
+const SHORT_WEEK: &str =
+    "# Four late shifts in a short week of three days, 0 to 2. Nobody is to share a
+# late shift, and four people can't have different days out of three.
+#
+# Shows: a model without a solution.
+#
+# Prints:
+#   infeasible
+
+hkm 1
+
+var ann in 0..2
+var ben in 0..2
+var cleo in 0..2
+var dora in 0..2
+
+alldifferent (ann, ben, cleo, dora)
+";
 
 /// A host with one input, `m`, so many bytes of room for what goes out, and one reading that fails,
 /// by its number from 1.
@@ -95,32 +232,6 @@ fn ends_with<R: Threads + Sync>(
     let words = words_of(alloc, line)?;
     let ended = run(rt, alloc, words.as_slice(), host, &Quiet);
     Ok(ended == status && host.written(Slot::Out) == text.as_bytes())
-}
-
-/// Whether it does on a host that has room, where no call is to fail.
-fn prints<R: Threads + Sync>(
-    rt: &R,
-    alloc: Global,
-    line: &str,
-    model: &[u8],
-    status: u8,
-    text: &str,
-) -> Result<bool, AllocError> {
-    let mut host = host_with(alloc, model, OUT_BYTES, NONE)?;
-    ends_with(rt, alloc, line, &mut host, status, text)
-}
-
-/// Whether it does over the model of a pair, with this room and this failing reading.
-fn pair_ends_with<R: Threads + Sync>(
-    rt: &R,
-    alloc: Global,
-    room: usize,
-    failing: u64,
-    status: u8,
-    text: &str,
-) -> Result<bool, AllocError> {
-    let mut host = host_with(alloc, PAIR.as_bytes(), room, failing)?;
-    ends_with(rt, alloc, "solve m", &mut host, status, text)
 }
 
 /// A command line, the model in `m`, and the status and the text that are due.
@@ -172,45 +283,58 @@ fn rows() -> [Row; 26] {
     ]
 }
 
+/// The models of `examples/`, as the files have them, with the text that each comment shows.
+fn examples() -> [Row; 5] {
+    [
+        (
+            "solve m",
+            COSTS,
+            0,
+            "optimal 106\nann_painting 0\nben_painting 1\nann_wiring 1\nben_wiring 0\nann_cleaning 1\nben_cleaning 0\n",
+        ),
+        (
+            "solve m",
+            DUTIES,
+            0,
+            "solution\nann_opens 0\nann_closes 1\nben_opens 1\nben_closes 0\ncleo_opens 2\ncleo_closes 3\n",
+        ),
+        (
+            "solve m",
+            EARLY,
+            0,
+            "solution\nfirst 0\nsecond 1\nthird 2\n",
+        ),
+        ("solve m", PAIRS, 0, "solution\nlorry_a 0\nlorry_b 1\n"),
+        ("solve m", SHORT_WEEK, 0, "infeasible\n"),
+    ]
+}
+
 #[test]
 fn prints_what_is_due(rt: HostRuntime) -> Result<(), Fail> {
-    for (line, model, status, text) in rows() {
-        let ended = prints(&rt, rt.alloc(), line, model.as_bytes(), status, text)?;
+    for (line, model, status, text) in rows().into_iter().chain(examples()) {
+        let mut host = host_with(rt.alloc(), model.as_bytes(), OUT_BYTES, NONE)?;
+        let ended = ends_with(&rt, rt.alloc(), line, &mut host, status, text)?;
         assert!(rt; ended, "{line:?} on {model:?}");
     }
     Ok(())
 }
 
 #[test]
-fn reads_to_the_limit(rt: HostRuntime) -> Result<(), Fail> {
-    let longest = padded(rt.alloc(), MODEL_BYTES)?;
-    assert!(rt;
-        prints(
-            &rt,
-            rt.alloc(),
-            "solve m",
-            longest.as_slice(),
-            0,
-            "solution\n"
-        )?
-    );
-    let longer = padded(rt.alloc(), MODEL_BYTES + 1)?;
-    assert!(rt;
-        prints(
-            &rt,
-            rt.alloc(),
-            "solve m",
-            longer.as_slice(),
-            8,
-            "too large\n"
-        )?
-    );
-    Ok(())
-}
-
-#[test]
-fn tells_faults(rt: HostRuntime) -> Result<(), Fail> {
-    assert!(rt; pair_ends_with(&rt, rt.alloc(), OUT_BYTES, 2, 4, "read fault\n")?);
-    assert!(rt; pair_ends_with(&rt, rt.alloc(), 8, NONE, 5, "")?);
+fn stops_where_it_must(rt: HostRuntime) -> Result<(), Fail> {
+    let rows = [
+        (1_048_576, OUT_BYTES, NONE, 0, "solution\n"),
+        (1_048_577, OUT_BYTES, NONE, 8, "too large\n"),
+        (6, OUT_BYTES, 2, 4, "read fault\n"),
+        (6, 8, NONE, 5, ""),
+    ];
+    for (length, room, failing, status, text) in rows {
+        let model = padded(rt.alloc(), length)?;
+        let mut host = host_with(rt.alloc(), model.as_slice(), room, failing)?;
+        let ended = ends_with(&rt, rt.alloc(), "solve m", &mut host, status, text)?;
+        assert!(rt;
+            ended,
+            "{length} bytes, {room} of room, reading {failing} fails"
+        );
+    }
     Ok(())
 }

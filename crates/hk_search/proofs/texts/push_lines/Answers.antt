@@ -2,7 +2,7 @@ use Rattle.std.proofs.Common.{◌≡◌, List, ℕ, [], inl, inr, subst}
 use Rattle.hk_base.specs.Lists.{AppendsFront}
 use Rattle.hk_search.specs.AnswerTexts.{answer_line, answer_lines}
 use Rattle.hk_search.proofs.AnswerLines.{answer_lines-end, answer_lines-first}
-use Rattle.hk_search.proofs.Appending.{Appended, Appended-all, AppendsFront-piece, OnErr-always}
+use Rattle.hk_text.proofs.Appending.{Appended, Appended-all, AppendsFront-piece, OnErr-always}
 use Rattle.hk_search.proofs.texts.push_lines.Goals as goal
 
 pub returns-in_err-push_line-clause-front : goal.returns-in_err-push_line-clause-front

@@ -1,5 +1,5 @@
 use Rattle.hk_search.specs.AnswerTexts.{answer_lines}
-use Rattle.hk_search.proofs.Appending.{Appended}
+use Rattle.hk_text.proofs.Appending.{Appended}
 use Rattle.hk_search.proofs.texts.push_lines.Given as goal
 
 abbrev pub invariant-loop-name : goal.invariant-loop-name

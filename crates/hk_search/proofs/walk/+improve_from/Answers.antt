@@ -3,7 +3,7 @@ use Rattle.std.proofs.lemmas.Grind.{common_steps}
 use Rattle.std.proofs.lemmas.List.{length_push}
 use Rattle.hk_base.specs.Lists.{IsFrontOf}
 use Rattle.hk_base.specs.Sets.{Has}
-use Rattle.hk_search.specs.Walks.{IsBegun, IsBestAfter}
+use Rattle.hk_search.specs.inside.Walks.{IsBegun, IsBestAfter}
 use Rattle.hk_search.proofs.Begun.{small_from_IsBegun, IsBegun-push}
 use Rattle.hk_search.proofs.Trying.{IsBestAfter-settled, priced_after}
 use Rattle.hk_search.proofs.Walking.{BeginsBelow, IsBestAfter-nothing, IsBestAfter-skipped, IsBestAfter-more, IsBestAfter-all, front_of_push, pushed_to}

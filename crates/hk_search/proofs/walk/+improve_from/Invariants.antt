@@ -1,5 +1,5 @@
 use Rattle.std.proofs.Common.{◌≡◌, ◌-◌, length}
-use Rattle.hk_search.specs.Walks.{IsBestAfter}
+use Rattle.hk_search.specs.inside.Walks.{IsBestAfter}
 use Rattle.hk_search.proofs.Walking.{BeginsBelow}
 use Rattle.hk_search.proofs.walk.+improve_from.Given as goal
 

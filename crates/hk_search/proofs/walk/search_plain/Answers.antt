@@ -1,6 +1,6 @@
 use Rattle.std.proofs.Common.{List, ℕ, None, subst}
 use Rattle.hk_base.specs.Lists.{IsFrontOf}
-use Rattle.hk_search.specs.Walks.{IsBestAfter}
+use Rattle.hk_search.specs.inside.Walks.{IsBestAfter}
 use Rattle.hk_search.proofs.Trying.{IsFinding-all}
 use Rattle.hk_search.proofs.walk.search_plain.Goals as goal
 

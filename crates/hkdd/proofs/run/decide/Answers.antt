@@ -8,10 +8,10 @@ returns-in_default-clause-due g c = usage_due _ _ c.in_default.ensures.none c.in
 
 pub returns-in_ok-due-in-Ok-clause-due : goal.returns-in_ok-due-in-Ok-clause-due
 returns-in_ok-due-in-Ok-clause-due g c =
-    due_reply c.in-Some.ensures.solve c.in-Ok.ensures.read.read
+    due_reply c.in-Some.ensures.solve c.in-Ok.ensures.read
     (subst (λ bytes. IsReply bytes c.in_ok-due-in-Ok.due.status c.in_ok-due-in-Ok.due.text) c.as_slice.ensures c.in_ok-due-in-Ok.ensures)
 
 pub returns-in_ok-due-in-Err-Failed-clause-due : goal.returns-in_ok-due-in-Err-Failed-clause-due
 returns-in_ok-due-in-Err-Failed-clause-due g c =
     let stopped = rw c.in-Err-Failed.field-0-is at c.in-Err-Failed.ensures.stopped in
-    read_fault_due _ _ c.in-Some.ensures.solve stopped.1 c.in_ok-due-in-Err-Failed.ensures.status c.in_ok-due-in-Err-Failed.ensures.text
+    read_fault_due _ _ c.in-Some.ensures.solve stopped c.in_ok-due-in-Err-Failed.ensures.status c.in_ok-due-in-Err-Failed.ensures.text
