@@ -269,6 +269,3 @@ fn write_piece(output: &mut Output, piece: &[u8], faults: &mut u64) -> Result<us
         Err(fault(faults))
     }
 }
-
-#[cfg(test)]
-mod tests;

@@ -1,21 +1,27 @@
 //! Specifications: which texts are read and how they are printed, and which are refused and why.
 
+use crate::texts::{MOST_BYTES, repeat};
 use hk_base::{Bytes, List};
 use hk_parse::{BlockFault, SpecFault, print_spec, read_spec};
+use hk_spec::Spec;
 use std::alloc::{AllocError, Global};
-use std::test::Fail;
 
-/// The most bytes that are read.
-const MOST_BYTES: usize = 1_048_576;
+/// Whether a specification is printed so.
+fn is_printed(alloc: Global, spec: &Spec, text: &[u8]) -> Option<bool> {
+    let mut printed = List::new(alloc);
+    print_spec(spec, &mut printed).ok()?;
+    Some(printed.as_slice() == text)
+}
 
-/// The text of a specification, read and printed.
-fn reprinted(alloc: Global, text: &[u8]) -> Result<Bytes, Fail> {
-    let mut out = List::new(alloc);
-    if text.len() <= MOST_BYTES {
-        let spec = read_spec(alloc, text)?;
-        print_spec(&spec, &mut out)?;
+/// Whether a specification is read from a text and printed as another.
+fn is_reprinted(alloc: Global, text: &[u8], spaced: &[u8]) -> Option<bool> {
+    if text.len() > MOST_BYTES {
+        return None;
     }
-    Ok(out)
+    let spec = read_spec(alloc, text).ok()?;
+    let printed = is_printed(alloc, &spec, spaced);
+    drop(spec);
+    printed
 }
 
 /// The line and the fault for which a text is refused, where it is; want of memory has no line.
@@ -24,7 +30,10 @@ fn refusal(alloc: Global, text: &[u8]) -> Option<(u32, BlockFault)> {
         return Some((0, BlockFault::Limit));
     }
     match read_spec(alloc, text) {
-        Ok(_) => None,
+        Ok(spec) => {
+            drop(spec);
+            None
+        }
         Err(SpecFault::Syntax(line)) => Some((line, BlockFault::Syntax)),
         Err(SpecFault::Name(line)) => Some((line, BlockFault::Name)),
         Err(SpecFault::Limit(line)) => Some((line, BlockFault::Limit)),
@@ -32,27 +41,33 @@ fn refusal(alloc: Global, text: &[u8]) -> Option<(u32, BlockFault)> {
     }
 }
 
-/// Appends the piece `count` times.
-fn repeat(out: &mut Bytes, piece: &[u8], count: usize) -> Result<(), AllocError> {
-    for _ in 0..count {
-        out.push_all(piece)?;
-    }
-    Ok(())
-}
-
 /// A specification whose test is these pieces, each as often as is said beside it.
 fn with_test(alloc: Global, pieces: &[(&str, usize)]) -> Result<Bytes, AllocError> {
     let mut text = List::new(alloc);
     text.push_all(b"spec deep ()\ntest ")?;
-    for (piece, count) in pieces {
-        repeat(&mut text, piece.as_bytes(), *count)?;
-    }
+    push_pieces(&mut text, pieces)?;
     text.push_all(b"\nend\n")?;
     Ok(text)
 }
 
+/// Appends these pieces, each as often as is said beside it.
+fn push_pieces(text: &mut Bytes, pieces: &[(&str, usize)]) -> Result<(), AllocError> {
+    for (piece, count) in pieces {
+        repeat(text, piece.as_bytes(), *count)?;
+    }
+    Ok(())
+}
+
+/// The line and the fault for which a specification is refused whose test is these pieces.
+fn test_refusal(alloc: Global, pieces: &[(&str, usize)]) -> Option<(u32, BlockFault)> {
+    let Ok(text) = with_test(alloc, pieces) else {
+        return Some((0, BlockFault::Memory));
+    };
+    refusal(alloc, text.as_slice())
+}
+
 #[test]
-fn specifications_are_printed_spaced(rt: HostRuntime) -> Result<(), Fail> {
+fn specifications_are_printed_spaced(rt: HostRuntime) {
     let rows = [
         (
             "spec rise ()\ndown m Min 0\ntest ((i < 1) or (m < v))\nstep m v\nend\n",
@@ -76,10 +91,9 @@ fn specifications_are_printed_spaced(rt: HostRuntime) -> Result<(), Fail> {
         ),
     ];
     for (text, spaced) in rows {
-        let printed = reprinted(rt.alloc(), text.as_bytes())?;
-        assert_eq!(rt; printed.as_slice(), spaced.as_bytes(), "{text}");
+        let printed = is_reprinted(rt.alloc(), text.as_bytes(), spaced.as_bytes());
+        assert_eq!(rt; printed, Some(true), "{text}");
     }
-    Ok(())
 }
 
 #[test]
@@ -121,7 +135,7 @@ fn bad_lines_are_told(rt: HostRuntime) {
 }
 
 #[test]
-fn deep_conditions_are_told(rt: HostRuntime) -> Result<(), Fail> {
+fn deep_conditions_are_told(rt: HostRuntime) {
     let syntax = Some((2, BlockFault::Syntax));
     let name = Some((2, BlockFault::Name));
     let limit = Some((2, BlockFault::Limit));
@@ -149,13 +163,7 @@ fn deep_conditions_are_told(rt: HostRuntime) -> Result<(), Fail> {
         (&[("(", 100_000), ("x", 1)], syntax),
     ];
     for (pieces, told) in rows {
-        let text = with_test(rt.alloc(), pieces)?;
         let (piece, count) = pieces.first().copied().unwrap_or(("", 0));
-        assert_eq!(rt;
-            refusal(rt.alloc(), text.as_slice()),
-            told,
-            "{count} {piece}"
-        );
+        assert_eq!(rt; test_refusal(rt.alloc(), pieces), told, "{count} {piece}");
     }
-    Ok(())
 }

@@ -1,12 +1,16 @@
 //! Models: which are read, which are refused and why, and how values are judged by them.
 
+use crate::texts::{MOST_BYTES, numbered, repeat};
 use hk_base::{Bytes, List};
 use hk_model::{ModelError, Problem, RefusalKind, judge, read_model};
 use std::alloc::{AllocError, Global};
-use std::test::Fail;
 
-/// The most bytes that are read.
-const MOST_BYTES: usize = 1_048_576;
+/// Two variables of which one is 1, where the first being 1 is worth 1.
+pub const WORTH: &str =
+    "hkm 1\nvar x in 0..1\nvar y in 0..1\nsum (1*x, 1*y) 1..1\nminimize (-1*x)\n";
+
+/// Two variables of two values, which are different.
+pub const PAIR: &str = "hkm 1\nvar x in 0..1\nvar y in 0..1\nalldifferent (x, y)\n";
 
 /// A specification of lists that rise, posted on two variables.
 const RISE: &str =
@@ -17,7 +21,7 @@ const NEAR: &str =
     "hkm 1\nvar x in 0..5\nvar y in 0..5\nspec near (num a, set b, list c)\ntest ((v <= a) and ((v in b) and (c[i] < v)))\nend\npost near (4, {5, 0..2}, [1, -1]) (x, y)\n";
 
 /// The problem that a text spells, where it spells one.
-fn spelled(alloc: Global, text: &[u8]) -> Option<Problem> {
+pub fn spelled(alloc: Global, text: &[u8]) -> Option<Problem> {
     if text.len() > MOST_BYTES {
         return None;
     }
@@ -30,8 +34,12 @@ fn refused(alloc: Global, text: &[u8]) -> Option<(u32, RefusalKind)> {
         return None;
     }
     match read_model(alloc, text) {
+        Ok(problem) => {
+            drop(problem);
+            None
+        }
         Err(ModelError::Refused(refusal)) => Some((refusal.line, refusal.kind)),
-        _ => None,
+        Err(_) => None,
     }
 }
 
@@ -40,47 +48,69 @@ fn declared(alloc: Global, text: &[u8]) -> Option<(usize, usize, bool)> {
     let problem = spelled(alloc, text)?;
     let variables = problem.domains().len();
     let constraints = problem.constraints().len();
-    Some((variables, constraints, problem.objective().is_some()))
+    let has_objective = problem.objective().is_some();
+    drop(problem);
+    Some((variables, constraints, has_objective))
 }
 
-/// Whether the values, one for each variable, are judged so by the model of a text.
-fn is_judged(
+/// The same of the header and so many lines of a number between these texts.
+fn declared_by_lines(
     alloc: Global,
-    text: &[u8],
-    values: &[u8],
-    cost: Option<i64>,
-) -> Result<bool, AllocError> {
-    let Some(problem) = spelled(alloc, text) else {
-        return Ok(false);
-    };
-    if problem.domains().len() != values.len() || values.iter().any(|value| *value > 127) {
-        return Ok(false);
-    }
-    Ok(judge(alloc, &problem, values)? == cost)
+    before: &[u8],
+    after: &[u8],
+    count: u16,
+) -> Option<(usize, usize, bool)> {
+    let text = numbered(alloc, b"hkm 1\n", before, after, count).ok()?;
+    declared(alloc, text.as_slice())
 }
 
-/// The header, and then so many times the text before a name, a name of two letters, another each
-/// time up to 676 times, and the text after it.
-fn numbered(alloc: Global, count: u16, before: &[u8], after: &[u8]) -> Result<Bytes, AllocError> {
-    let mut text = List::new(alloc);
-    text.push_all(b"hkm 1\n")?;
-    for number in 0..count {
-        text.push_all(before)?;
-        text.push(b'a' + (number / 26 % 26) as u8)?;
-        text.push(b'a' + (number % 26) as u8)?;
-        text.push_all(after)?;
-    }
-    Ok(text)
+/// The same of a text with spaces after it up to the most bytes that are read.
+fn declared_by_padded(alloc: Global, text: &[u8]) -> Option<(usize, usize, bool)> {
+    let text = padded(alloc, text).ok()?;
+    declared(alloc, text.as_slice())
 }
 
 /// The text, and spaces up to the most bytes that are read.
 fn padded(alloc: Global, text: &[u8]) -> Result<Bytes, AllocError> {
     let mut out = List::new(alloc);
     out.push_all(text)?;
-    for _ in text.len()..MOST_BYTES {
-        out.push(b' ')?;
-    }
+    repeat(&mut out, b" ", MOST_BYTES.saturating_sub(text.len()))?;
     Ok(out)
+}
+
+/// The line and the kind of the refusal of the header and so many lines of a number between these
+/// texts.
+fn refused_lines(
+    alloc: Global,
+    before: &[u8],
+    after: &[u8],
+    count: u16,
+) -> Option<(u32, RefusalKind)> {
+    let text = numbered(alloc, b"hkm 1\n", before, after, count).ok()?;
+    refused(alloc, text.as_slice())
+}
+
+/// What the values cost by a problem, where there is one below 128 for each variable; None where they
+/// don't keep the constraints.
+fn judged_by(alloc: Global, problem: &Problem, values: &[u8]) -> Option<Option<i64>> {
+    if problem.domains().len() != values.len() || values.iter().any(|value| *value > 127) {
+        return None;
+    }
+    judge(alloc, problem, values).ok()
+}
+
+/// The same by the problem that a text spells.
+fn judged(alloc: Global, text: &[u8], values: &[u8]) -> Option<Option<i64>> {
+    let problem = spelled(alloc, text)?;
+    let cost = judged_by(alloc, &problem, values);
+    drop(problem);
+    cost
+}
+
+/// The same by so many variables that no constraint binds.
+fn judged_free(alloc: Global, values: &[u8], count: u16) -> Option<Option<i64>> {
+    let text = numbered(alloc, b"hkm 1\n", b"var x", b" in 0..127\n", count).ok()?;
+    judged(alloc, text.as_slice(), values)
 }
 
 /// A text, how many variables and constraints it declares, and whether an objective.
@@ -126,32 +156,27 @@ fn good_models() -> [Read; 9] {
 }
 
 #[test]
-fn models_are_read(rt: HostRuntime) -> Result<(), Fail> {
+fn models_are_read(rt: HostRuntime) {
     for (text, variables, constraints, objective) in good_models() {
         let found = declared(rt.alloc(), text.as_bytes());
         assert_eq!(rt; found, Some((variables, constraints, objective)), "{text}");
     }
-    let longest = padded(rt.alloc(), b"hkm 1")?;
-    assert_eq!(rt;
-        declared(rt.alloc(), longest.as_slice()),
-        Some((0, 0, false))
-    );
-    let variables = numbered(rt.alloc(), 256, b"var ", b" in 0..127\n")?;
-    assert_eq!(rt;
-        declared(rt.alloc(), variables.as_slice()),
-        Some((256, 0, false))
-    );
-    let specifications = numbered(rt.alloc(), 64, b"spec ", b" ()\ntest true\nend\n")?;
-    assert_eq!(rt;
-        declared(rt.alloc(), specifications.as_slice()),
-        Some((0, 0, false))
-    );
-    Ok(())
 }
 
 #[test]
-fn values_are_judged(rt: HostRuntime) -> Result<(), Fail> {
-    let rows: [(&str, &[u8], Option<i64>); 10] = [
+fn the_greatest_models_are_read(rt: HostRuntime) {
+    let alloc = rt.alloc();
+    let longest = declared_by_padded(alloc, b"hkm 1");
+    assert_eq!(rt; longest, Some((0, 0, false)));
+    let variables = declared_by_lines(alloc, b"var x", b" in 0..127\n", 256);
+    assert_eq!(rt; variables, Some((256, 0, false)));
+    let specifications = declared_by_lines(alloc, b"spec s", b" ()\ntest true\nend\n", 64);
+    assert_eq!(rt; specifications, Some((0, 0, false)));
+}
+
+#[test]
+fn values_are_judged(rt: HostRuntime) {
+    let rows: [(&str, &[u8], Option<i64>); 14] = [
         ("hkm 1", &[], Some(0)),
         (
             "hkm 1\nvar x in 0..1\nminimize (-3*x)\n",
@@ -174,15 +199,17 @@ fn values_are_judged(rt: HostRuntime) -> Result<(), Fail> {
         (NEAR, &[5, 0], None),
         (NEAR, &[4, 0], None),
         (NEAR, &[1, 0], None),
+        (WORTH, &[1, 0], Some(-1)),
+        (WORTH, &[1, 1], None),
+        (PAIR, &[0, 1], Some(0)),
+        (PAIR, &[1, 1], None),
     ];
     for (text, values, cost) in rows {
-        let judged = is_judged(rt.alloc(), text.as_bytes(), values, cost)?;
-        assert!(rt; judged, "{values:?} by {text}");
+        let found = judged(rt.alloc(), text.as_bytes(), values);
+        assert_eq!(rt; found, Some(cost), "{values:?} by {text}");
     }
-    let variables = numbered(rt.alloc(), 256, b"var ", b" in 0..127\n")?;
-    let judged = is_judged(rt.alloc(), variables.as_slice(), &[127; 256], Some(0))?;
-    assert!(rt; judged, "256 values");
-    Ok(())
+    let free = judged_free(rt.alloc(), &[127; 256], 256);
+    assert_eq!(rt; free, Some(Some(0)), "256 values");
 }
 
 /// A text, and the line and the kind of its refusal.
@@ -291,7 +318,7 @@ fn bad_specifications() -> [Refused; 14] {
 }
 
 #[test]
-fn refusals_are_told(rt: HostRuntime) -> Result<(), Fail> {
+fn refusals_are_told(rt: HostRuntime) {
     for (text, line, kind) in bad_models() {
         let found = refused(rt.alloc(), text.as_bytes());
         assert_eq!(rt; found, Some((line, kind)), "{text}");
@@ -300,11 +327,13 @@ fn refusals_are_told(rt: HostRuntime) -> Result<(), Fail> {
         let found = refused(rt.alloc(), text.as_bytes());
         assert_eq!(rt; found, Some((line, kind)), "{text}");
     }
-    let variables = numbered(rt.alloc(), 257, b"var ", b" in 0..127\n")?;
-    let found = refused(rt.alloc(), variables.as_slice());
-    assert_eq!(rt; found, Some((258, RefusalKind::Limit)));
-    let specifications = numbered(rt.alloc(), 65, b"spec ", b" ()\ntest true\nend\n")?;
-    let found = refused(rt.alloc(), specifications.as_slice());
-    assert_eq!(rt; found, Some((194, RefusalKind::Limit)));
-    Ok(())
+}
+
+#[test]
+fn too_great_models_are_refused(rt: HostRuntime) {
+    let alloc = rt.alloc();
+    let variables = refused_lines(alloc, b"var x", b" in 0..127\n", 257);
+    assert_eq!(rt; variables, Some((258, RefusalKind::Limit)));
+    let specifications = refused_lines(alloc, b"spec s", b" ()\ntest true\nend\n", 65);
+    assert_eq!(rt; specifications, Some((194, RefusalKind::Limit)));
 }

@@ -13,6 +13,3 @@ mod steps;
 pub use id::Id;
 pub use pool::Pool;
 pub use steps::Steps;
-
-#[cfg(test)]
-mod tests;

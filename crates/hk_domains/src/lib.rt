@@ -10,6 +10,3 @@ mod domains;
 mod values;
 
 pub use domains::Domains;
-
-#[cfg(test)]
-mod tests;

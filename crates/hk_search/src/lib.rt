@@ -9,7 +9,5 @@ pub use walk::search_plain;
 
 mod best;
 mod found;
-#[cfg(test)]
-mod tests;
 mod texts;
 mod walk;

@@ -14,8 +14,6 @@ mod runs;
 mod settings;
 mod specification;
 mod steps;
-#[cfg(test)]
-mod tests;
 mod values;
 
 pub use arguments::Arg;

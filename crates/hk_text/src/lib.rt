@@ -19,7 +19,5 @@ mod lines;
 mod numbers;
 mod readings;
 mod sets;
-#[cfg(test)]
-mod tests;
 mod texts;
 mod tokenizer;

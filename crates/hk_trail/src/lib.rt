@@ -13,6 +13,3 @@ mod store;
 mod track;
 
 pub use store::Store;
-
-#[cfg(test)]
-mod tests;
