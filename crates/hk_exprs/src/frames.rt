@@ -4,7 +4,7 @@ use crate::operands::{MadeCond, MadeNum, Operand};
 use hk_terms::Mark;
 
 /// What was taken since a parenthesis was opened.
-#[derive(Debug, Drop)]
+#[derive(Drop)]
 pub enum Frame<'a> {
     Empty,
     /// `-`.
@@ -24,7 +24,7 @@ pub enum Frame<'a> {
 
 /// What stood in parentheses: an expression, one operand alone, or two numbers with a comma
 /// between.
-#[derive(Debug, Drop)]
+#[derive(Drop)]
 pub enum Content<'a> {
     Value(Operand<'a>),
     Single(Operand<'a>),

@@ -4,7 +4,7 @@ use hk_spec::{Cond, NumExpr, SetExpr};
 use hk_terms::Flaw;
 
 /// An expression and its depth.
-#[derive(Debug, Drop)]
+#[derive(Drop)]
 pub struct Tree<T> {
     pub root: T,
     pub depth: u32,
@@ -19,7 +19,7 @@ pub type MadeCond = Result<Tree<Cond>, Flaw>;
 
 /// An operand that was taken: a word, of which it isn't known yet what it stands for; the digits
 /// after `-`; or what is made of an expression.
-#[derive(Debug, Drop)]
+#[derive(Drop)]
 pub enum Operand<'a> {
     Word(&'a [u8]),
     Signed(&'a [u8]),

@@ -13,7 +13,7 @@ use Rattle.hk_lines.proofs.Finding.{signed_shorter}
 use Rattle.hk_lines.proofs.Lists.{IsListOf, Opens, opens_last, opens_more}
 use Rattle.hk_text.proofs.TokenTexts.{apart, differ, same_rest}
 use Rattle.hk_lines.proofs.Phrasing.{signed_one}
-use Rattle.hk_lines.proofs.Posting.{signed_no_mark, arg_one, arg_list_one, arg_shorter}
+use Rattle.hk_lines.proofs.Posting.{arg_one, arg_list_one, arg_shorter}
 use Rattle.hk_lines.proofs.ScopeNames.{scope_of_names, names_of_scope, names_one}
 
 -- an option that is tested to be some has a value with the property of its values
@@ -71,24 +71,6 @@ numbers_arg_said opens numbers = record { exact = Numbers numbers.exact; phrase 
 pub set_arg_said : {texts more rest : List (List ℕ)} {set : List Values} → texts ≡ codes "{" ∷ more → BeginsCapped SetThen (map capped_values) texts set rest → BeginsCapped ArgThen capped_arg texts (Set set) rest
 set_arg_said opens set = record { exact = Set set.exact; phrase = arg_set opens set.phrase; is_capped = ap Set set.is_capped }
 
--- texts that begin with no number, no opening bracket and no opening brace begin with no argument
-pub no_arg : {texts : List (List ℕ)} → BeginsWithout SignedThen texts → ((more : List (List ℕ)) → texts ≡ codes "[" ∷ more → ⊥) → ((more : List (List ℕ)) → texts ≡ codes "{" ∷ more → ⊥) → BeginsWithout ArgThen texts
-no_arg no_signed no_bracket no_brace (Number value) rest (arg_number signed) = no_signed value rest signed
-no_arg no_signed no_bracket no_brace (Set set) rest (arg_set {more = more} opens phrase) = no_brace more opens
-no_arg no_signed no_bracket no_brace (Numbers numbers) rest (arg_numbers {more = more} opens phrase) = no_bracket more opens
-
--- nor do those with no numbers after an opening bracket
-pub no_numbers_no_arg : {texts more : List (List ℕ)} → texts ≡ codes "[" ∷ more → BeginsWithout NumbersThen more → BeginsWithout ArgThen texts
-no_numbers_no_arg opens none (Number value) rest (arg_number signed) = signed_no_mark signed opens refl refl
-no_numbers_no_arg opens none (Set set) rest (arg_set also phrase) = absurd (apart 0 opens also refl)
-no_numbers_no_arg opens none (Numbers numbers) rest (arg_numbers also phrase) = none numbers rest (subst (λ texts. NumbersThen texts numbers rest) (same_rest also opens) phrase)
-
--- nor do those with an opening brace that begin with no set
-pub no_set_no_arg : {texts more : List (List ℕ)} → texts ≡ codes "{" ∷ more → BeginsWithout SetThen texts → BeginsWithout ArgThen texts
-no_set_no_arg opens none (Number value) rest (arg_number signed) = signed_no_mark signed opens refl refl
-no_set_no_arg opens none (Set set) rest (arg_set also phrase) = none set rest phrase
-no_set_no_arg opens none (Numbers numbers) rest (arg_numbers also phrase) = absurd (apart 0 opens also refl)
-
 -- no arguments
 pub no_args_said : {texts rest : List (List ℕ)} {args : List ArgText} → texts ≡ codes ")" ∷ rest → args ≡ [] → BeginsCapped ArgListThen (map capped_arg) texts args rest
 no_args_said closes none = record { exact = []; phrase = no_args closes; is_capped = none }
@@ -96,11 +78,6 @@ no_args_said closes none = record { exact = []; phrase = no_args closes; is_capp
 -- some arguments
 pub some_args_said : {texts rest : List (List ℕ)} {args : List ArgText} → BeginsCapped ArgsThen (map capped_arg) texts args rest → BeginsCapped ArgListThen (map capped_arg) texts args rest
 some_args_said begins = record { exact = begins.exact; phrase = some_args begins.phrase; is_capped = begins.is_capped }
-
--- neither a closing parenthesis nor arguments
-pub no_arg_list : {texts : List (List ℕ)} → ((rest : List (List ℕ)) → texts ≡ codes ")" ∷ rest → ⊥) → BeginsWithout ArgsThen texts → BeginsWithout ArgListThen texts
-no_arg_list no_close none args rest (no_args closes) = no_close rest closes
-no_arg_list no_close none args rest (some_args phrase) = none args rest phrase
 
 -- names between parentheses, with nothing after them, are a scope
 pub whole_scope_said : {texts inner rest names : List (List ℕ)} → texts ≡ codes "(" ∷ inner → NamesThen inner names rest → rest ≡ [] → IsWholeScope texts names

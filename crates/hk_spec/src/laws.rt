@@ -21,8 +21,8 @@ pub fn up_steps_keep_the_shape()
     ensures { (b : BoundSpecification) (position value : ℕ) (state : List Prop) → IsBound b → position < b.len → value < 128 → HasShape (up_shape b.spec) state → HasShape (up_shape b.spec) (up_step b position value state) }
 {}
 
-/// A good condition that may not name the bound on the cost holds whatever the bound is, or for no
-/// bound.
+/// A good condition that may not name the bound on the cost holds or not, the same for
+/// each bound.
 pub fn condition_without_best()
     ensures { (scope : Scope) (p : Cond) (at : Setting) (best : ℤ) → scope.best ≡ false → IsTrue (is_good_cond scope p) → cond_holds (record at { best = best }) p ≡ cond_holds at p }
 {}

@@ -1,14 +1,13 @@
 -- What is made of an expression as it is written: the tree, or its flaw.
-use Rattle.std.specs.Prelude.{◌≡◌, ◌≤◌, ◌++◌, ℕ, length, Result, Ok, Err, IsTrue}
+use Rattle.std.specs.Prelude.{◌≡◌, ◌≤◌, length, Result, Ok, Err, IsTrue}
 use Rattle.hk_spec.specs.Scopes.{is_good_num, is_good_set, is_good_cond}
 use Rattle.hk_spec.specs.declared.expressions.NumExpr.{NumExpr}
 use Rattle.hk_spec.specs.declared.expressions.SetExpr.{SetExpr}
 use Rattle.hk_spec.specs.declared.expressions.Cond.{Cond}
 use Rattle.hk_terms.specs.declared.flaws.Flaw.{Flaw}
 use Rattle.hk_terms.specs.declared.flaws.Flaw.TheVariants.{Name, Limit}
-use Rattle.hk_terms.specs.Names.{scope_of}
 use Rattle.hk_terms.specs.CondTexts.{CondText}
-use Rattle.hk_terms.specs.Names.{Names, NamesSet, NamesNum, NamesCond, SmallSet, SmallNum, SmallCond, set_depth, num_depth, cond_depth}
+use Rattle.hk_terms.specs.Names.{Names, scope_of, NamesSet, NamesNum, NamesCond, SmallSet, SmallNum, SmallCond, set_depth, num_depth, cond_depth}
 use Rattle.hk_terms.specs.NumTexts.{NumText}
 use Rattle.hk_terms.specs.SetTexts.{SetText}
 use Rattle.hk_terms.specs.Trees.{set_text, num_text, cond_text}

@@ -29,14 +29,6 @@ length-on_highest change [] = refl
 length-on_highest change (highest ∷ below) = refl
 
 -- what leaves three lists as they are leaves the one that it changes
-pub nums_noted : (place : ℕ) (nums bits words : List (List ℕ)) → length nums ≡ length bits → length nums ≡ length words → zipped nums bits words ≡ on_highest (with_num place) (zipped nums bits words) → nums ≡ on_highest (with_place place) nums
-nums_noted place [] bits words first second same = refl
-nums_noted place (n ∷ nums) [] words first second same = cc
-nums_noted place (n ∷ nums) (b ∷ bits) [] first second same = cc
-nums_noted place (n ∷ nums) (b ∷ bits) (w ∷ words) first second same =
-    let highest : record { nums = n; bits = b; words = w } ≡ with_num place (record { nums = n; bits = b; words = w }) = cc in
-    ap (λ (places : Places). places.nums ∷ nums) highest
-
 pub bits_noted : (place : ℕ) (nums bits words : List (List ℕ)) → length nums ≡ length bits → length nums ≡ length words → zipped nums bits words ≡ on_highest (with_bits place) (zipped nums bits words) → bits ≡ on_highest (with_place place) bits
 bits_noted place nums [] words first second same = refl
 bits_noted place [] (b ∷ bits) words first second same = cc

@@ -4,13 +4,10 @@ use Rattle.std.specs.Prelude.{Option, Some, None, option_map}
 use Rattle.hk_base.specs.declared.host.Slot.{Slot}
 use Rattle.hk_base.specs.declared.host.Slot.TheVariants.{CertOut, Out}
 use Rattle.hk_base.specs.Hosts.{View, SameOutside, ReadFaulted, WriteFaulted, Wrote, WroteFront, appended}
-use Rattle.hk_base.proofs.HostLaws.{SameOutside-same, Wrote-told, ReadFaulted-then, then-WriteFaulted}
+use Rattle.hk_base.proofs.HostLaws.{Wrote-told, ReadFaulted-then, then-WriteFaulted}
 use Rattle.hkdd.specs.inside.Readings.{KeepsOutput}
 use Rattle.hkdd.specs.Texts.{usage_text, read_fault_text}
 use Rattle.hkdd.specs.Runs.{IsSolve, AreNoCommand, IsFresh, IsDue, due_usage, due_reply, due_read_fault, IsOut, Ends, ends_whole, ends_write_fault, ends_no_memory}
-
-pub keeps_output : (host : View) → KeepsOutput host host
-keeps_output host = record { outside = SameOutside-same host; written = refl }
 
 -- what is due stays due while counts of faults don't fall
 due_after : {words : List (List ℕ)} {old between new : View} {status : ℕ} {text : List ℕ} → SameOutside between new → IsDue words old between status text → IsDue words old new status text

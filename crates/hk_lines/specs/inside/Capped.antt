@@ -1,7 +1,7 @@
 -- What tokens begin with, with its numbers capped above the limits.
 use Rattle.std.specs.Prelude.{◌≡◌, ℕ, ℤ, List, []}
 use Rattle.hk_lines.specs.Phrases.{BoundsThen}
-use Rattle.hk_lines.specs.Shapes.{capped, capped_signed}
+use Rattle.hk_lines.specs.Shapes.{capped_signed}
 
 -- what tokens begin with, capped, and their rest
 pub record BeginsCapped {X : Type 0} (Phrase : List (List ℕ) → X → List (List ℕ) → Type 0) (cap : X → X) (texts : List (List ℕ)) (answer : X) (rest : List (List ℕ)) : Type 0 where
