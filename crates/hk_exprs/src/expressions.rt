@@ -1,6 +1,6 @@
 //! The expressions that tokens say.
 
-ghost use Rattle.std.specs.Prelude.{◌≡◌, ◌++◌, All, IfOk, IfSome, IsNone};
+ghost use Rattle.std.specs.Prelude.{◌≡◌, ◌++◌, All, Err, IfOk, IfSome, IsNone};
 ghost use Rattle.std.specs.Result.{result_map_both};
 ghost use Rattle.hk_text.specs.Texts.{texts_of};
 ghost use Rattle.hk_terms.specs.CondTexts.{CondText, cond_texts, IsCondText};
@@ -123,9 +123,34 @@ fn both_of(
 ) -> Result<(NumExpr, NumExpr), Flaw>
     ensures { (names : names.Names) (a b : NumText) → IsNumOf names a low → IsNumOf names b high → IsPairOf names a b result }
 {
-    match (low, high) {
-        (Err(Flaw::Name), _) | (_, Err(Flaw::Name)) => Err(Flaw::Name),
-        (Err(Flaw::Limit), _) | (_, Err(Flaw::Limit)) => Err(Flaw::Limit),
-        (Ok(low), Ok(high)) => Ok((low, high)),
+    match low {
+        Err(flaw) => Err(first_flaw(flaw, high)),
+        Ok(low) => match high {
+            Err(flaw) => {
+                drop(low);
+                Err(flaw)
+            }
+            Ok(high) => Ok((low, high)),
+        },
+    }
+}
+
+/// What is wrong with two expressions of which the first has this flaw: first a name, then a limit.
+fn first_flaw(flaw: Flaw, high: Result<NumExpr, Flaw>) -> Flaw
+    ensures { (names : names.Names) (a b : NumText) → IsNumOf names a (Err flaw) → IsNumOf names b high → IsPairOf names a b (Err result) }
+{
+    match flaw {
+        Flaw::Name => {
+            drop(high);
+            Flaw::Name
+        }
+        Flaw::Limit => match high {
+            Err(Flaw::Name) => Flaw::Name,
+            Err(Flaw::Limit) => Flaw::Limit,
+            Ok(high) => {
+                drop(high);
+                Flaw::Limit
+            }
+        },
     }
 }

@@ -31,9 +31,11 @@ fn sets_between<'a>(
         BothOrNone (IsKept names.now) (machine.both (λ p q. machine.Set (sets.Joined (set_operation mark) p q)) (machine.as_set x) (machine.as_set y)) made) }
 {
     let Some(a) = as_set(names, a) else {
+        drop(b);
         return Ok(None);
     };
     let Some(b) = as_set(names, b) else {
+        drop(a);
         return Ok(None);
     };
     Ok(Some(Operand::Set(join_sets(alloc, a, mark, b)?)))
@@ -53,9 +55,11 @@ fn nums_between<'a>(
         BothOrNone (IsKept names.now) (machine.both (λ p q. machine.Num (nums.Joined (num_operation mark) p q)) (machine.as_num x) (machine.as_num y)) made) }
 {
     let Some(a) = as_num(names, a) else {
+        drop(b);
         return Ok(None);
     };
     let Some(b) = as_num(names, b) else {
+        drop(a);
         return Ok(None);
     };
     Ok(Some(Operand::Num(join_nums(alloc, a, mark, b)?)))
@@ -75,9 +79,11 @@ fn nums_compared<'a>(
         BothOrNone (IsKept names.now) (machine.both (λ p q. machine.Cond (conds.Compared (comparison mark) p q)) (machine.as_num x) (machine.as_num y)) made) }
 {
     let Some(a) = as_num(names, a) else {
+        drop(b);
         return Ok(None);
     };
     let Some(b) = as_num(names, b) else {
+        drop(a);
         return Ok(None);
     };
     Ok(Some(Operand::Cond(compare(alloc, a, mark, b)?)))
@@ -95,9 +101,11 @@ fn subset_between<'a>(
         BothOrNone (IsKept names.now) (machine.both (λ p q. machine.Cond (conds.Subset p q)) (machine.as_set x) (machine.as_set y)) made) }
 {
     let Some(a) = as_set(names, a) else {
+        drop(b);
         return Ok(None);
     };
     let Some(b) = as_set(names, b) else {
+        drop(a);
         return Ok(None);
     };
     Ok(Some(Operand::Cond(ask_subset(alloc, a, b)?)))
@@ -114,9 +122,11 @@ fn conds_between<'a>(
         BothOrNone (IsKept names) (machine.both (λ p q. machine.Cond (conds.Joined (asks_both mark) p q)) (machine.as_cond x) (machine.as_cond y)) made) }
 {
     let Some(a) = as_cond(a) else {
+        drop(b);
         return Ok(None);
     };
     let Some(b) = as_cond(b) else {
+        drop(a);
         return Ok(None);
     };
     Ok(Some(Operand::Cond(join_conds(alloc, a, mark, b)?)))
@@ -129,9 +139,18 @@ pub fn word_of<'a>(operand: Operand<'a>) -> Option<&'a [u8]>
     match operand {
         Operand::Word(word) => Some(word),
         Operand::Signed(_digits) => None,
-        Operand::Num(_num) => None,
-        Operand::Set(_set) => None,
-        Operand::Cond(_cond) => None,
+        Operand::Num(num) => {
+            drop(num);
+            None
+        }
+        Operand::Set(set) => {
+            drop(set);
+            None
+        }
+        Operand::Cond(cond) => {
+            drop(cond);
+            None
+        }
     }
 }
 
@@ -148,12 +167,15 @@ fn member_of<'a>(
         BothOrNone (IsKept names.now) (machine.member inside x (machine.as_set y)) made) }
 {
     let Some(set) = as_set(names, b) else {
+        drop(a);
         return Ok(None);
     };
     let Some(word) = word_of(a) else {
+        drop(set);
         return Ok(None);
     };
     if !is_text(word, b"v") {
+        drop(set);
         return Ok(None);
     }
     Ok(Some(Operand::Cond(ask_member(alloc, inside, set)?)))
@@ -182,7 +204,10 @@ pub fn joined<'a>(
         Mark::NotIn => member_of(alloc, names, false, a, b),
         Mark::Sub => subset_between(alloc, names, a, b),
         Mark::And | Mark::Or => conds_between(alloc, a, mark, b),
-        Mark::Comma => Ok(None),
+        Mark::Comma => {
+            drop((a, b));
+            Ok(None)
+        }
     }
 }
 
@@ -198,12 +223,15 @@ pub fn counted<'a>(
         BothOrNone (IsKept names.now) (machine.applied x (machine.Single y)) made) }
 {
     let Some(set) = as_set(names, set) else {
+        drop(word);
         return Ok(None);
     };
     let Some(word) = word_of(word) else {
+        drop(set);
         return Ok(None);
     };
     if !is_text(word, b"card") {
+        drop(set);
         return Ok(None);
     }
     Ok(Some(Operand::Num(count(alloc, set)?)))
@@ -220,6 +248,7 @@ pub fn chosen<'a>(
         BothOrNone (IsKept names) (machine.applied x (machine.Couple p q)) made) }
 {
     let Some(word) = word_of(word) else {
+        drop((a, b));
         return Ok(None);
     };
     if is_text(word, b"min") {
@@ -228,5 +257,6 @@ pub fn chosen<'a>(
     if is_text(word, b"max") {
         return Ok(Some(Operand::Num(choose_num(alloc, true, a, b)?)));
     }
+    drop((a, b));
     Ok(None)
 }

@@ -48,8 +48,14 @@ pub fn as_num(names: &Names<'_>, operand: Operand<'_>) -> Option<MadeNum>
         Operand::Word(word) => Some(num_word(names, word)),
         Operand::Signed(digits) => signed(digits),
         Operand::Num(made) => Some(made),
-        Operand::Set(_set) => None,
-        Operand::Cond(_cond) => None,
+        Operand::Set(set) => {
+            drop(set);
+            None
+        }
+        Operand::Cond(cond) => {
+            drop(cond);
+            None
+        }
     }
 }
 
@@ -95,8 +101,14 @@ pub fn as_set(names: &Names<'_>, operand: Operand<'_>) -> Option<MadeSet>
         Operand::Word(word) => Some(set_word(names, word)),
         Operand::Set(made) => Some(made),
         Operand::Signed(_digits) => None,
-        Operand::Num(_num) => None,
-        Operand::Cond(_cond) => None,
+        Operand::Num(num) => {
+            drop(num);
+            None
+        }
+        Operand::Cond(cond) => {
+            drop(cond);
+            None
+        }
     }
 }
 
@@ -121,7 +133,13 @@ pub fn as_cond(operand: Operand<'_>) -> Option<MadeCond>
         Operand::Word(word) => cond_word(word),
         Operand::Cond(made) => Some(made),
         Operand::Signed(_digits) => None,
-        Operand::Num(_num) => None,
-        Operand::Set(_set) => None,
+        Operand::Num(num) => {
+            drop(num);
+            None
+        }
+        Operand::Set(set) => {
+            drop(set);
+            None
+        }
     }
 }

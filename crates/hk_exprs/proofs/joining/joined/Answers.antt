@@ -58,5 +58,5 @@ returns-in-NotIn c = ok_then _ _ c.member_of-in-NotIn.result c.member_of-in-NotI
 pub returns-in-Sub : goal.returns-in-Sub
 returns-in-Sub c = ok_then _ _ c.subset_between.result c.subset_between.ensures (λ made is x y h k. subst (λ m. BothOrNone (IsKept c.args.names.now) (machine.joined x m y) made) (sym c.in-Sub.is) (is x y h k))
 
-pub returns : goal.returns
-returns c = λ x y h k. subst (λ m. BothOrNone (IsKept c.args.names.now) (machine.joined x m y) None) (sym c.in-Comma.is) neither
+pub returns-in-Comma : goal.returns-in-Comma
+returns-in-Comma c = λ x y h k. subst (λ m. BothOrNone (IsKept c.args.names.now) (machine.joined x m y) None) (sym c.in-Comma.is) neither
