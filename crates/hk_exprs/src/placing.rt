@@ -170,6 +170,60 @@ fn applied<'a>(
     }
 }
 
+/// One operand, before parentheses.
+fn one_with_last<'a>(
+    alloc: Global,
+    names: &Names<'_>,
+    last: Operand<'a>,
+    content: Content<'a>,
+) -> Result<Option<Frame<'a>>, AllocError>
+    requires few { IsFew names.now }
+    ensures { IfOk result (λ next. (y : machine.Operand) (k : machine.Content) → IsKept names.now y last.entry → IsKeptContent names.now k content.entry →
+        BothOrNone (IsKeptFrame names.now) (machine.with_last (machine.One y) k) next) }
+{
+    match applied(alloc, names, last, content) {
+        Ok(Some(last)) => Ok(Some(Frame::One(last))),
+        Ok(None) => Ok(None),
+        Err(error) => Err(error),
+    }
+}
+
+/// `-` and an operand, before parentheses.
+fn neg_with_last<'a>(
+    alloc: Global,
+    names: &Names<'_>,
+    last: Operand<'a>,
+    content: Content<'a>,
+) -> Result<Option<Frame<'a>>, AllocError>
+    requires few { IsFew names.now }
+    ensures { IfOk result (λ next. (y : machine.Operand) (k : machine.Content) → IsKept names.now y last.entry → IsKeptContent names.now k content.entry →
+        BothOrNone (IsKeptFrame names.now) (machine.with_last (machine.Neg y) k) next) }
+{
+    match applied(alloc, names, last, content) {
+        Ok(Some(last)) => Ok(Some(Frame::Neg(last))),
+        Ok(None) => Ok(None),
+        Err(error) => Err(error),
+    }
+}
+
+/// The first of two operands side by side, before parentheses.
+fn second_with_last<'a>(
+    alloc: Global,
+    names: &Names<'_>,
+    last: Operand<'a>,
+    content: Content<'a>,
+) -> Result<Option<Frame<'a>>, AllocError>
+    requires few { IsFew names.now }
+    ensures { IfOk result (λ next. (y : machine.Operand) (k : machine.Content) → IsKept names.now y last.entry → IsKeptContent names.now k content.entry →
+        BothOrNone (IsKeptFrame names.now) (machine.with_last (machine.Second y) k) next) }
+{
+    match applied(alloc, names, last, content) {
+        Ok(Some(last)) => Ok(Some(Frame::Second(last))),
+        Ok(None) => Ok(None),
+        Err(error) => Err(error),
+    }
+}
+
 /// Two operands with a mark between, the last of them before parentheses.
 fn two_with_last<'a>(
     alloc: Global,
@@ -227,18 +281,9 @@ pub fn with_last<'a>(
         BothOrNone (IsKeptFrame names.now) (machine.with_last f k) next) }
 {
     match frame {
-        Frame::One(last) => match applied(alloc, names, last, content)? {
-            None => Ok(None),
-            Some(last) => Ok(Some(Frame::One(last))),
-        },
-        Frame::Neg(last) => match applied(alloc, names, last, content)? {
-            None => Ok(None),
-            Some(last) => Ok(Some(Frame::Neg(last))),
-        },
-        Frame::Second(last) => match applied(alloc, names, last, content)? {
-            None => Ok(None),
-            Some(last) => Ok(Some(Frame::Second(last))),
-        },
+        Frame::One(last) => one_with_last(alloc, names, last, content),
+        Frame::Neg(last) => neg_with_last(alloc, names, last, content),
+        Frame::Second(last) => second_with_last(alloc, names, last, content),
         Frame::Two(a, mark, last) => two_with_last(alloc, names, a, mark, last, content),
         Frame::Both(a, last) => both_with_last(alloc, names, a, last, content),
         Frame::Empty => Ok(none_of(content)),

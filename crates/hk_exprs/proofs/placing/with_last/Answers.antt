@@ -1,28 +1,17 @@
-use Rattle.std.proofs.Common.{None, Some, subst}
-use Rattle.hk_exprs.proofs.FramesKept.{instead, mapped, mapped_none, ok_then}
+use Rattle.hk_exprs.proofs.FramesKept.{instead, ok_then}
 use Rattle.hk_exprs.proofs.KeepingFrames.{from_empty, from_turned, from_one, from_neg, from_after, from_two, from_not, from_first, from_second, from_both}
 use Rattle.hk_exprs.specs.inside.Machines as machine
-use Rattle.hk_exprs.specs.inside.Standing.{BothOrNone, neither, IsKept, IsKeptFrame, kept_one, kept_neg, kept_second}
-use Rattle.hk_exprs.specs.declared.frames.Frame.TheVariants as frame
+use Rattle.hk_exprs.specs.inside.Standing.{BothOrNone, neither, IsKeptFrame}
 use Rattle.hk_exprs.proofs.placing.with_last.Goals as goal
 
-pub returns-in-None : goal.returns-in-None
-returns-in-None c = λ f k is kept. from_one (λ f. BothOrNone (IsKeptFrame c.args.names.now) (machine.with_last f k) None) c.in-One.is (λ x h. mapped_none machine.One (subst (BothOrNone (IsKept c.args.names.now) (machine.applied x k)) c.in-None.is (c.in_ok-applied-in-One.ensures x k h kept))) f is
+pub returns-in-One : goal.returns-in-One
+returns-in-One c = ok_then c.one_with_last.result (λ next is f k has kept. from_one (λ f. BothOrNone (IsKeptFrame c.args.names.now) (machine.with_last f k) next) c.in-One.is (λ y more. is y k more kept) f has) c.one_with_last.ensures
 
-pub returns-in-Some : goal.returns-in-Some
-returns-in-Some c = λ f k is kept. from_one (λ f. BothOrNone (IsKeptFrame c.args.names.now) (machine.with_last f k) (Some (frame.One c.in-Some.last))) c.in-One.is (λ x h. mapped machine.One (subst (BothOrNone (IsKept c.args.names.now) (machine.applied x k)) c.in-Some.is (c.in_ok-applied-in-One.ensures x k h kept)) (λ y more. kept_one more)) f is
+pub returns-in-Neg : goal.returns-in-Neg
+returns-in-Neg c = ok_then c.neg_with_last.result (λ next is f k has kept. from_neg (λ f. BothOrNone (IsKeptFrame c.args.names.now) (machine.with_last f k) next) c.in-Neg.is (λ y more. is y k more kept) f has) c.neg_with_last.ensures
 
-pub returns-in-None-2 : goal.returns-in-None-2
-returns-in-None-2 c = λ f k is kept. from_neg (λ f. BothOrNone (IsKeptFrame c.args.names.now) (machine.with_last f k) None) c.in-Neg.is (λ x h. mapped_none machine.Neg (subst (BothOrNone (IsKept c.args.names.now) (machine.applied x k)) c.in-None-2.is (c.in_ok-applied-in-Neg.ensures x k h kept))) f is
-
-pub returns-in-Some-2 : goal.returns-in-Some-2
-returns-in-Some-2 c = λ f k is kept. from_neg (λ f. BothOrNone (IsKeptFrame c.args.names.now) (machine.with_last f k) (Some (frame.Neg c.in-Some-2.last))) c.in-Neg.is (λ x h. mapped machine.Neg (subst (BothOrNone (IsKept c.args.names.now) (machine.applied x k)) c.in-Some-2.is (c.in_ok-applied-in-Neg.ensures x k h kept)) (λ y more. kept_neg more)) f is
-
-pub returns-in-None-3 : goal.returns-in-None-3
-returns-in-None-3 c = λ f k is kept. from_second (λ f. BothOrNone (IsKeptFrame c.args.names.now) (machine.with_last f k) None) c.in-Second.is (λ x h. mapped_none machine.Second (subst (BothOrNone (IsKept c.args.names.now) (machine.applied x k)) c.in-None-3.is (c.in_ok-applied-in-Second.ensures x k h kept))) f is
-
-pub returns-in-Some-3 : goal.returns-in-Some-3
-returns-in-Some-3 c = λ f k is kept. from_second (λ f. BothOrNone (IsKeptFrame c.args.names.now) (machine.with_last f k) (Some (frame.Second c.in-Some-3.last))) c.in-Second.is (λ x h. mapped machine.Second (subst (BothOrNone (IsKept c.args.names.now) (machine.applied x k)) c.in-Some-3.is (c.in_ok-applied-in-Second.ensures x k h kept)) (λ y more. kept_second more)) f is
+pub returns-in-Second : goal.returns-in-Second
+returns-in-Second c = ok_then c.second_with_last.result (λ next is f k has kept. from_second (λ f. BothOrNone (IsKeptFrame c.args.names.now) (machine.with_last f k) next) c.in-Second.is (λ y more. is y k more kept) f has) c.second_with_last.ensures
 
 pub returns-in-Two : goal.returns-in-Two
 returns-in-Two c = ok_then c.two_with_last.result (λ next is f k has kept. from_two (λ f. BothOrNone (IsKeptFrame c.args.names.now) (machine.with_last f k) next) c.in-Two.is (λ x y h more. is x y k h more kept) f has) c.two_with_last.ensures
