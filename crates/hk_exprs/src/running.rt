@@ -37,16 +37,26 @@ fn run_steps<'a>(
     let mut inner = start;
     let mut left = tokens;
     'steps: while !left.is_empty() {
-        let Some((next, rest)) = step(alloc, line, left, names, inner, &mut outer)? else {
-            return Ok(None);
-        };
-        inner = next;
-        left = rest;
+        match step(alloc, line, left, names, inner, &mut outer) {
+            Ok(Some((next, rest))) => {
+                inner = next;
+                left = rest;
+            }
+            Ok(None) => {
+                drop(outer);
+                return Ok(None);
+            }
+            Err(error) => {
+                drop(outer);
+                return Err(error);
+            }
+        }
     }
     if !outer.as_slice().is_empty() {
-        drop(inner);
+        drop((inner, outer));
         return Ok(None);
     }
+    drop(outer);
     Ok(Some(inner))
 }
 

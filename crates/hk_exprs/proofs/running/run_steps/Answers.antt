@@ -9,17 +9,17 @@ use Rattle.hk_exprs.proofs.running.run_steps.Goals as goal
 pub steps-init : goal.steps-init
 steps-init c = record { tokens = c.requires.tokens; runs = run_starts c.new-outer.ensures }
 
-pub returns-in_default-clause-none : goal.returns-in_default-clause-none
-returns-in_default-clause-none c =
-    let none : NotStepped c.args.names.now c.steps.inner c.steps.outer (texts_of c.args.line.now c.steps.left.now) = c.in_ok-next.ensures.none (search rules) in
+pub returns-in-Ok-None-clause-none : goal.returns-in-Ok-None-clause-none
+returns-in-Ok-None-clause-none c =
+    let none : NotStepped c.args.names.now c.steps.inner c.steps.outer (texts_of c.args.line.now c.steps.left.now) = c.in-Ok-None.ensures.none (search rules) in
     λ _. run_stuck c.steps.invariant.runs (texts_left c.args.line.now c.steps.left.now (sym c.is_empty.ensures ∙ c.steps-test.true)) none
 
 pub steps-preserved : goal.steps-preserved
 steps-preserved c =
-    let stepped : Stepped c.args.names.now c.steps.inner c.steps.outer (texts_of c.args.line.now c.steps.left.now) c.in-Some.next c.step.new.outer (texts_of c.args.line.now c.in-Some.rest.now) =
-    subst (λ read. IfSome read (λ found. Stepped c.args.names.now c.steps.inner c.steps.outer (texts_of c.args.line.now c.steps.left.now) found.0 c.step.new.outer (texts_of c.args.line.now found.1.now))) c.in-Some.is c.in_ok-next.ensures.some
+    let stepped : Stepped c.args.names.now c.steps.inner c.steps.outer (texts_of c.args.line.now c.steps.left.now) c.in-Ok-Some.next c.step.new.outer (texts_of c.args.line.now c.in-Ok-Some.rest.now) =
+    subst (λ read. IfSome read (λ found. Stepped c.args.names.now c.steps.inner c.steps.outer (texts_of c.args.line.now c.steps.left.now) found.0 c.step.new.outer (texts_of c.args.line.now found.1.now))) c.in-Ok-Some.field-0-is c.in-Ok-Some.ensures.some
     in
-    let tokens : All (IsTokenIn c.args.line.now) c.in-Some.rest.now = search rules in
+    let tokens : All (IsTokenIn c.args.line.now) c.in-Ok-Some.rest.now = search rules in
     record { tokens = tokens; runs = run_more c.steps.invariant.runs stepped }
 
 pub returns-then-not-is_empty-clause-none : goal.returns-then-not-is_empty-clause-none
