@@ -61,8 +61,9 @@ pub fn reply(alloc: Global, model: &[u8]) -> Result<Due, AllocError>
     }
     match read_model(alloc, model) {
         Ok(problem) => {
-            let due = answered(alloc, &problem)?;
-            Ok(due)
+            let answer = answered(alloc, &problem);
+            drop(problem);
+            answer
         }
         Err(ModelError::Refused(refusal)) => {
             let due = refused(alloc, refusal.line, refusal.kind)?;

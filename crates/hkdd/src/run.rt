@@ -1,6 +1,6 @@
 //! A run of the program, from its words to its status.
 
-ghost use Rattle.std.specs.Prelude.{◌≡◌, map, string_bytes, IfOk, IfSome, IfNone};
+ghost use Rattle.std.specs.Prelude.{map, string_bytes, IfOk, IfSome, IfNone};
 ghost use Rattle.hkdd.specs.inside.Readings.{KeepsOutput};
 ghost use Rattle.hkdd.specs.Runs.{AreNoCommand, IsDue, IsFresh, IsSolve, LendsNames, Ran, Takes};
 
@@ -63,8 +63,9 @@ fn decide<H: Host>(alloc: Global, words: &[String], host: &mut H) -> Result<Due,
     };
     match read_file(alloc, host, file) {
         Ok(model) => {
-            let due = reply(alloc, model.as_slice())?;
-            Ok(due)
+            let answer = reply(alloc, model.as_slice());
+            drop(model);
+            answer
         }
         Err(ReadError::Failed) => {
             let due = read_fault(alloc)?;
