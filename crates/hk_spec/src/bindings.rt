@@ -6,8 +6,8 @@ ghost use Rattle.hk_spec.specs.Specifications.{down_shape, up_shape};
 ghost use Rattle.hk_spec.specs.Steps.{down_part, up_part, down_step, up_step, test_passes, with_part};
 
 use crate::arguments::Arg;
-use crate::copies::copy_list;
-use crate::runs::{initial_state, passes_alone, stepped_down, up_states};
+use crate::copies::{both, copy_list};
+use crate::runs::{accepts_between, initial_state, up_states};
 use crate::settings::Setting;
 use crate::specification::Spec;
 use crate::steps::{part, write_steps};
@@ -49,11 +49,17 @@ impl Bound {
     pub fn copy(&self, alloc: Global) -> Result<Bound, AllocError>
         ensures { IfOk result (λ bound. bound ≡ self.now) }
     {
-        Ok(Bound {
-            spec: self.spec.copy(alloc)?,
-            args: copy_list(alloc, self.args.as_slice())?,
-            len: self.len,
-        })
+        match both(
+            self.spec.copy(alloc),
+            copy_list(alloc, self.args.as_slice()),
+        ) {
+            Ok((spec, args)) => Ok(Bound {
+                spec,
+                args,
+                len: self.len,
+            }),
+            Err(refused) => Err(refused),
+        }
     }
 
     /// Writes the down state after a value at a position, of the one before it in `from`, over the
@@ -140,17 +146,11 @@ impl Bound {
         requires values { All (λ value. value < 128) values.now }
         ensures { IfOk result (λ accepted. IsTrue accepted ↔ Accepts self.now best values.now) }
     {
-        let spec = &self.spec;
-        let mut ups = up_states(alloc, self, values)?;
-        let mut down = initial_state(alloc, spec.down.as_slice())?;
-        for position in 0..values.len() {
-            let Some(up) = ups.pop() else { unreachable!() };
-            let value = values[position];
-            if !passes_alone(self, position, value, &down, &up, best) {
-                return Ok(false);
-            }
-            down = stepped_down(self, position, value, &down)?;
+        let ups = up_states(alloc, self, values);
+        let down = initial_state(alloc, self.spec.down.as_slice());
+        match both(ups, down) {
+            Ok((ups, down)) => accepts_between(self, values, best, ups, down),
+            Err(refused) => Err(refused),
         }
-        Ok(true)
     }
 }

@@ -1,5 +1,6 @@
-//! Equal values of trees and lists.
-ghost use Rattle.std.specs.Prelude.{◌≡◌, IfOk};
+//! Equal values of trees and lists. What a failure leaves is dropped by a call: the drops that the
+//! compiler writes where a scope ends are proved anew at each way out, and cost the most of a proof.
+ghost use Rattle.std.specs.Prelude.{◌≡◌, [], ◌∷◌, ◌++◌, Ok, IfOk, OnOk};
 
 use crate::arguments::Arg;
 use crate::expressions::{Cond, NumExpr, SetExpr};
@@ -21,9 +22,22 @@ pub fn copy_list<T: Duplicate>(alloc: Global, items: &[T]) -> Result<List<T>, Al
 {
     let mut copy = List::new(alloc);
     for item in items {
-        copy.push(item.duplicate(alloc)?)?;
+        if let Err(refused) = push_copy(alloc, &mut copy, item) {
+            drop(copy);
+            return Err(refused);
+        }
     }
     Ok(copy)
+}
+
+/// Puts a copy of an item at the end of a list.
+fn push_copy<T: Duplicate>(alloc: Global, copy: &mut List<T>, item: &T) -> Result<(), AllocError>
+    ensures { OnOk result (copy.new ≡ copy.old ++ item.now ∷ []) }
+{
+    match item.duplicate(alloc) {
+        Ok(item) => copy.push(item),
+        Err(refused) => Err(refused),
+    }
 }
 
 /// An equal list of plain items, as bytes or numbers.
@@ -31,8 +45,36 @@ pub fn copy_plain<T: Copy>(alloc: Global, items: &[T]) -> Result<List<T>, AllocE
     ensures { IfOk result (λ copy. copy ≡ items.now) }
 {
     let mut copy = List::new(alloc);
-    copy.push_all(items)?;
-    Ok(copy)
+    match copy.push_all(items) {
+        Ok(()) => Ok(copy),
+        Err(refused) => {
+            drop(copy);
+            Err(refused)
+        }
+    }
+}
+
+/// Both of two values that are made, or the failure of the first that failed.
+pub fn both<A: Drop, B: Drop>(
+    first: Result<A, AllocError>,
+    second: Result<B, AllocError>,
+) -> Result<(A, B), AllocError>
+    ensures first { IfOk result (λ made. first ≡ Ok made.0) }
+    ensures second { IfOk result (λ made. second ≡ Ok made.1) }
+{
+    match first {
+        Err(refused) => {
+            drop(second);
+            Err(refused)
+        }
+        Ok(a) => match second {
+            Err(refused) => {
+                drop(a);
+                Err(refused)
+            }
+            Ok(b) => Ok((a, b)),
+        },
+    }
 }
 
 /// An equal set expression.
@@ -40,15 +82,24 @@ pub fn copy_plain<T: Copy>(alloc: Global, items: &[T]) -> Result<List<T>, AllocE
 pub fn copy_set(alloc: Global, e: &SetExpr) -> Result<SetExpr, AllocError>
     ensures { IfOk result (λ copy. copy ≡ e.now) }
 {
-    Ok(match e {
-        SetExpr::Lit(set) => SetExpr::Lit(*set),
-        SetExpr::One => SetExpr::One,
-        SetExpr::Param(place) => SetExpr::Param(*place),
-        SetExpr::Bits(side, place) => SetExpr::Bits(*side, *place),
-        SetExpr::Union(a, b) => SetExpr::Union(set_box(alloc, a)?, set_box(alloc, b)?),
-        SetExpr::Common(a, b) => SetExpr::Common(set_box(alloc, a)?, set_box(alloc, b)?),
-        SetExpr::Without(a, b) => SetExpr::Without(set_box(alloc, a)?, set_box(alloc, b)?),
-    })
+    match e {
+        SetExpr::Lit(set) => Ok(SetExpr::Lit(*set)),
+        SetExpr::One => Ok(SetExpr::One),
+        SetExpr::Param(place) => Ok(SetExpr::Param(*place)),
+        SetExpr::Bits(side, place) => Ok(SetExpr::Bits(*side, *place)),
+        SetExpr::Union(a, b) => match set_boxes(alloc, a, b) {
+            Ok((a, b)) => Ok(SetExpr::Union(a, b)),
+            Err(refused) => Err(refused),
+        },
+        SetExpr::Common(a, b) => match set_boxes(alloc, a, b) {
+            Ok((a, b)) => Ok(SetExpr::Common(a, b)),
+            Err(refused) => Err(refused),
+        },
+        SetExpr::Without(a, b) => match set_boxes(alloc, a, b) {
+            Ok((a, b)) => Ok(SetExpr::Without(a, b)),
+            Err(refused) => Err(refused),
+        },
+    }
 }
 
 #[cycle(copy_set)]
@@ -58,30 +109,70 @@ fn set_box(alloc: Global, e: &Boxed<SetExpr>) -> Result<Boxed<SetExpr>, AllocErr
     Boxed::new(alloc, copy_set(alloc, e.get())?)
 }
 
+/// Equal values of two parts of an expression.
+#[cycle(copy_set)]
+fn set_boxes(
+    alloc: Global,
+    a: &Boxed<SetExpr>,
+    b: &Boxed<SetExpr>,
+) -> Result<(Boxed<SetExpr>, Boxed<SetExpr>), AllocError>
+    ensures { IfOk result (λ copies. copies ≡ (a.now, b.now)) }
+{
+    let first = set_box(alloc, a)?;
+    match set_box(alloc, b) {
+        Ok(second) => Ok((first, second)),
+        Err(refused) => {
+            drop(first);
+            Err(refused)
+        }
+    }
+}
+
 /// An equal number expression.
 #[cycle(copy_num)]
 pub fn copy_num(alloc: Global, e: &NumExpr) -> Result<NumExpr, AllocError>
     ensures { IfOk result (λ copy. copy ≡ e.now) }
 {
-    Ok(match e {
-        NumExpr::Lit(n) => NumExpr::Lit(*n),
-        NumExpr::Value => NumExpr::Value,
-        NumExpr::Index => NumExpr::Index,
-        NumExpr::Length => NumExpr::Length,
-        NumExpr::Best => NumExpr::Best,
-        NumExpr::Param(place) => NumExpr::Param(*place),
-        NumExpr::Item(place) => NumExpr::Item(*place),
-        NumExpr::Number(side, place) => NumExpr::Number(*side, *place),
-        NumExpr::Low(side, place) => NumExpr::Low(*side, *place),
-        NumExpr::High(side, place) => NumExpr::High(*side, *place),
-        NumExpr::Card(set) => NumExpr::Card(set_box(alloc, set)?),
-        NumExpr::Add(a, b) => NumExpr::Add(num_box(alloc, a)?, num_box(alloc, b)?),
-        NumExpr::Least(a, b) => NumExpr::Least(num_box(alloc, a)?, num_box(alloc, b)?),
-        NumExpr::Most(a, b) => NumExpr::Most(num_box(alloc, a)?, num_box(alloc, b)?),
-        NumExpr::Minus(a, b) => NumExpr::Minus(num_box(alloc, a)?, num_box(alloc, b)?),
-        NumExpr::Negative(a) => NumExpr::Negative(num_box(alloc, a)?),
-        NumExpr::Times(a, b) => NumExpr::Times(num_box(alloc, a)?, num_box(alloc, b)?),
-    })
+    match e {
+        NumExpr::Lit(n) => Ok(NumExpr::Lit(*n)),
+        NumExpr::Value => Ok(NumExpr::Value),
+        NumExpr::Index => Ok(NumExpr::Index),
+        NumExpr::Length => Ok(NumExpr::Length),
+        NumExpr::Best => Ok(NumExpr::Best),
+        NumExpr::Param(place) => Ok(NumExpr::Param(*place)),
+        NumExpr::Item(place) => Ok(NumExpr::Item(*place)),
+        NumExpr::Number(side, place) => Ok(NumExpr::Number(*side, *place)),
+        NumExpr::Low(side, place) => Ok(NumExpr::Low(*side, *place)),
+        NumExpr::High(side, place) => Ok(NumExpr::High(*side, *place)),
+        NumExpr::Card(set) => match set_box(alloc, set) {
+            Ok(set) => Ok(NumExpr::Card(set)),
+            Err(refused) => Err(refused),
+        },
+        NumExpr::Add(a, b) => match num_boxes(alloc, a, b) {
+            Ok((a, b)) => Ok(NumExpr::Add(a, b)),
+            Err(refused) => Err(refused),
+        },
+        NumExpr::Least(a, b) => match num_boxes(alloc, a, b) {
+            Ok((a, b)) => Ok(NumExpr::Least(a, b)),
+            Err(refused) => Err(refused),
+        },
+        NumExpr::Most(a, b) => match num_boxes(alloc, a, b) {
+            Ok((a, b)) => Ok(NumExpr::Most(a, b)),
+            Err(refused) => Err(refused),
+        },
+        NumExpr::Minus(a, b) => match num_boxes(alloc, a, b) {
+            Ok((a, b)) => Ok(NumExpr::Minus(a, b)),
+            Err(refused) => Err(refused),
+        },
+        NumExpr::Negative(a) => match num_box(alloc, a) {
+            Ok(a) => Ok(NumExpr::Negative(a)),
+            Err(refused) => Err(refused),
+        },
+        NumExpr::Times(a, b) => match num_boxes(alloc, a, b) {
+            Ok((a, b)) => Ok(NumExpr::Times(a, b)),
+            Err(refused) => Err(refused),
+        },
+    }
 }
 
 #[cycle(copy_num)]
@@ -91,26 +182,78 @@ fn num_box(alloc: Global, e: &Boxed<NumExpr>) -> Result<Boxed<NumExpr>, AllocErr
     Boxed::new(alloc, copy_num(alloc, e.get())?)
 }
 
+/// Equal values of two parts of an expression.
+#[cycle(copy_num)]
+fn num_boxes(
+    alloc: Global,
+    a: &Boxed<NumExpr>,
+    b: &Boxed<NumExpr>,
+) -> Result<(Boxed<NumExpr>, Boxed<NumExpr>), AllocError>
+    ensures { IfOk result (λ copies. copies ≡ (a.now, b.now)) }
+{
+    let first = num_box(alloc, a)?;
+    match num_box(alloc, b) {
+        Ok(second) => Ok((first, second)),
+        Err(refused) => {
+            drop(first);
+            Err(refused)
+        }
+    }
+}
+
 /// An equal condition.
 #[cycle(copy_cond)]
 pub fn copy_cond(alloc: Global, p: &Cond) -> Result<Cond, AllocError>
     ensures { IfOk result (λ copy. copy ≡ p.now) }
 {
-    Ok(match p {
-        Cond::Always => Cond::Always,
-        Cond::Never => Cond::Never,
-        Cond::AtMost(a, b) => Cond::AtMost(num_box(alloc, a)?, num_box(alloc, b)?),
-        Cond::Below(a, b) => Cond::Below(num_box(alloc, a)?, num_box(alloc, b)?),
-        Cond::AtLeast(a, b) => Cond::AtLeast(num_box(alloc, a)?, num_box(alloc, b)?),
-        Cond::Above(a, b) => Cond::Above(num_box(alloc, a)?, num_box(alloc, b)?),
-        Cond::Equal(a, b) => Cond::Equal(num_box(alloc, a)?, num_box(alloc, b)?),
-        Cond::Has(set) => Cond::Has(set_box(alloc, set)?),
-        Cond::Lacks(set) => Cond::Lacks(set_box(alloc, set)?),
-        Cond::Subset(a, b) => Cond::Subset(set_box(alloc, a)?, set_box(alloc, b)?),
-        Cond::Both(p, q) => Cond::Both(cond_box(alloc, p)?, cond_box(alloc, q)?),
-        Cond::Either(p, q) => Cond::Either(cond_box(alloc, p)?, cond_box(alloc, q)?),
-        Cond::Not(p) => Cond::Not(cond_box(alloc, p)?),
-    })
+    match p {
+        Cond::Always => Ok(Cond::Always),
+        Cond::Never => Ok(Cond::Never),
+        Cond::AtMost(a, b) => match num_boxes(alloc, a, b) {
+            Ok((a, b)) => Ok(Cond::AtMost(a, b)),
+            Err(refused) => Err(refused),
+        },
+        Cond::Below(a, b) => match num_boxes(alloc, a, b) {
+            Ok((a, b)) => Ok(Cond::Below(a, b)),
+            Err(refused) => Err(refused),
+        },
+        Cond::AtLeast(a, b) => match num_boxes(alloc, a, b) {
+            Ok((a, b)) => Ok(Cond::AtLeast(a, b)),
+            Err(refused) => Err(refused),
+        },
+        Cond::Above(a, b) => match num_boxes(alloc, a, b) {
+            Ok((a, b)) => Ok(Cond::Above(a, b)),
+            Err(refused) => Err(refused),
+        },
+        Cond::Equal(a, b) => match num_boxes(alloc, a, b) {
+            Ok((a, b)) => Ok(Cond::Equal(a, b)),
+            Err(refused) => Err(refused),
+        },
+        Cond::Has(set) => match set_box(alloc, set) {
+            Ok(set) => Ok(Cond::Has(set)),
+            Err(refused) => Err(refused),
+        },
+        Cond::Lacks(set) => match set_box(alloc, set) {
+            Ok(set) => Ok(Cond::Lacks(set)),
+            Err(refused) => Err(refused),
+        },
+        Cond::Subset(a, b) => match set_boxes(alloc, a, b) {
+            Ok((a, b)) => Ok(Cond::Subset(a, b)),
+            Err(refused) => Err(refused),
+        },
+        Cond::Both(p, q) => match cond_boxes(alloc, p, q) {
+            Ok((p, q)) => Ok(Cond::Both(p, q)),
+            Err(refused) => Err(refused),
+        },
+        Cond::Either(p, q) => match cond_boxes(alloc, p, q) {
+            Ok((p, q)) => Ok(Cond::Either(p, q)),
+            Err(refused) => Err(refused),
+        },
+        Cond::Not(p) => match cond_box(alloc, p) {
+            Ok(p) => Ok(Cond::Not(p)),
+            Err(refused) => Err(refused),
+        },
+    }
 }
 
 #[cycle(copy_cond)]
@@ -118,6 +261,25 @@ fn cond_box(alloc: Global, p: &Boxed<Cond>) -> Result<Boxed<Cond>, AllocError>
     ensures { IfOk result (λ copy. copy ≡ p.now) }
 {
     Boxed::new(alloc, copy_cond(alloc, p.get())?)
+}
+
+/// Equal values of two parts of an expression.
+#[cycle(copy_cond)]
+fn cond_boxes(
+    alloc: Global,
+    p: &Boxed<Cond>,
+    q: &Boxed<Cond>,
+) -> Result<(Boxed<Cond>, Boxed<Cond>), AllocError>
+    ensures { IfOk result (λ copies. copies ≡ (p.now, q.now)) }
+{
+    let first = cond_box(alloc, p)?;
+    match cond_box(alloc, q) {
+        Ok(second) => Ok((first, second)),
+        Err(refused) => {
+            drop(first);
+            Err(refused)
+        }
+    }
 }
 
 impl Duplicate for Param {
@@ -141,13 +303,20 @@ impl Duplicate for PropDecl {
 
 impl Duplicate for StepExpr {
     fn duplicate(&self, alloc: Global) -> Result<StepExpr, AllocError> {
-        Ok(match self {
-            StepExpr::Num(e) => StepExpr::Num(copy_num(alloc, e)?),
-            StepExpr::Pair(low, high) => {
-                StepExpr::Pair(copy_num(alloc, low)?, copy_num(alloc, high)?)
-            }
-            StepExpr::Set(e) => StepExpr::Set(copy_set(alloc, e)?),
-        })
+        match self {
+            StepExpr::Num(e) => match copy_num(alloc, e) {
+                Ok(e) => Ok(StepExpr::Num(e)),
+                Err(refused) => Err(refused),
+            },
+            StepExpr::Pair(low, high) => match both(copy_num(alloc, low), copy_num(alloc, high)) {
+                Ok((low, high)) => Ok(StepExpr::Pair(low, high)),
+                Err(refused) => Err(refused),
+            },
+            StepExpr::Set(e) => match copy_set(alloc, e) {
+                Ok(e) => Ok(StepExpr::Set(e)),
+                Err(refused) => Err(refused),
+            },
+        }
     }
 }
 

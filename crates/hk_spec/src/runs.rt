@@ -1,11 +1,14 @@
-//! The states of an exact run over a list of values.
-ghost use Rattle.std.specs.Prelude.{◌≡◌, ℕ, ◌<◌, length, reverse, IfOk, All};
+//! The states of an exact run over a list of values. Each way out drops the states that are left by
+//! a call, for the reason that `copies` gives.
+ghost use Rattle.std.specs.Prelude.{◌≡◌, ℕ, ◌<◌, ◌↔◌, length, reverse, IsTrue, IfOk, All};
 ghost use Rattle.hk_kinds.specs.Shapes.{HasShape};
+ghost use Rattle.hk_spec.specs.Runs.{Accepts};
 ghost use Rattle.hk_spec.specs.inside.UpStates.{exact_ups};
 ghost use Rattle.hk_spec.specs.Specifications.{initial_values, down_shape, up_shape};
 ghost use Rattle.hk_spec.specs.Steps.{down_step, up_step, test_passes};
 
 use crate::bindings::Bound;
+use crate::copies::both;
 use crate::parts::PropDecl;
 use hk_kinds::State;
 use std::alloc::{AllocError, Global};
@@ -16,7 +19,10 @@ pub fn initial_state(alloc: Global, properties: &[PropDecl]) -> Result<State, Al
 {
     let mut state = State::new(alloc);
     for property in properties {
-        state.push(property.init)?;
+        if let Err(refused) = state.push(property.init) {
+            drop(state);
+            return Err(refused);
+        }
     }
     Ok(state)
 }
@@ -84,14 +90,72 @@ pub fn up_states(alloc: Global, bound: &Bound, values: &[u8]) -> Result<Vec<Stat
     ensures { IfOk result (λ ups. ups.items ≡ reverse (exact_ups bound.now 0 values.now)) }
 {
     let spec = &bound.spec;
-    let mut ups = Vec::with_capacity(alloc, values.len())?;
-    let mut up = initial_state(alloc, spec.up.as_slice())?;
+    let (mut ups, mut up) = both(
+        Vec::with_capacity(alloc, values.len()),
+        initial_state(alloc, spec.up.as_slice()),
+    )?;
     let mut position = values.len();
     'back: while position > 0 {
         position -= 1;
-        let before = stepped_up(bound, position, values[position], &up)?;
-        ups.push(up)?;
-        up = before;
+        match stepped_up(bound, position, values[position], &up) {
+            Err(refused) => {
+                drop(up);
+                drop(ups);
+                return Err(refused);
+            }
+            Ok(before) => match ups.push(up) {
+                Err(refused) => {
+                    drop(before);
+                    drop(ups);
+                    return Err(refused.into());
+                }
+                Ok(()) => up = before,
+            },
+        }
     }
+    drop(up);
     Ok(ups)
+}
+
+/// Whether the exact run accepts the values, of its up states after each position, the last first,
+/// and its down state before the first.
+pub fn accepts_between(
+    bound: &Bound,
+    values: &[u8],
+    best: i64,
+    mut ups: Vec<State>,
+    mut down: State,
+) -> Result<bool, AllocError>
+    requires length { length values.now ≡ bound.now.len }
+    requires values { All (λ value. value < 128) values.now }
+    requires ups { ups.items ≡ reverse (exact_ups bound.now 0 values.now) }
+    requires down { down ≡ initial_values bound.now.spec.down }
+    ensures { IfOk result (λ accepted. IsTrue accepted ↔ Accepts bound.now best values.now) }
+{
+    prove!(values.len() <= usize::from(bound.len));
+    for position in 0..values.len() {
+        let Some(up) = ups.pop() else { unreachable!() };
+        let value = values[position];
+        if !passes_alone(bound, position, value, &down, &up, best) {
+            drop(up);
+            drop(down);
+            drop(ups);
+            return Ok(false);
+        }
+        drop(up);
+        match stepped_down(bound, position, value, &down) {
+            Err(refused) => {
+                drop(down);
+                drop(ups);
+                return Err(refused);
+            }
+            Ok(next) => {
+                drop(down);
+                down = next;
+            }
+        }
+    }
+    drop(down);
+    drop(ups);
+    Ok(true)
 }

@@ -1,7 +1,7 @@
 //! Specifications, which keep their rules.
 ghost use Rattle.std.specs.Prelude.{◌≡◌, IfOk};
 
-use crate::copies::{copy_cond, copy_list, copy_plain};
+use crate::copies::{both, copy_cond, copy_list, copy_plain};
 use crate::expressions::Cond;
 use crate::parts::{Param, PropDecl, StepExpr};
 use hk_base::{Bytes, List};
@@ -20,6 +20,12 @@ pub struct Spec {
     pub down_step: List<StepExpr>,
     pub up_step: List<StepExpr>,
 }
+
+/// The name and the parameters, and the properties of both sides.
+type Names = ((Bytes, List<Param>), (List<PropDecl>, List<PropDecl>));
+
+/// The test, and the steps of both sides.
+type Rules = (Cond, (List<StepExpr>, List<StepExpr>));
 
 impl Model for Spec {
     ghost use Rattle.std.specs.Coded.{codes};
@@ -43,14 +49,58 @@ impl Spec {
     pub fn copy(&self, alloc: Global) -> Result<Spec, AllocError>
         ensures { IfOk result (λ spec. spec ≡ self.now) }
     {
-        Ok(Spec {
-            name: copy_plain(alloc, self.name.as_slice())?,
-            params: copy_list(alloc, self.params.as_slice())?,
-            down: copy_list(alloc, self.down.as_slice())?,
-            up: copy_list(alloc, self.up.as_slice())?,
-            test: copy_cond(alloc, &self.test)?,
-            down_step: copy_list(alloc, self.down_step.as_slice())?,
-            up_step: copy_list(alloc, self.up_step.as_slice())?,
-        })
+        let names = copy_names(
+            alloc,
+            self.name.as_slice(),
+            self.params.as_slice(),
+            self.down.as_slice(),
+            self.up.as_slice(),
+        );
+        let rules = copy_rules(
+            alloc,
+            &self.test,
+            self.down_step.as_slice(),
+            self.up_step.as_slice(),
+        );
+        match both(names, rules) {
+            Ok((((name, params), (down, up)), (test, (down_step, up_step)))) => Ok(Spec {
+                name,
+                params,
+                down,
+                up,
+                test,
+                down_step,
+                up_step,
+            }),
+            Err(refused) => Err(refused),
+        }
     }
+}
+
+/// An equal name, equal parameters and equal properties of both sides.
+fn copy_names(
+    alloc: Global,
+    name: &[u8],
+    params: &[Param],
+    down: &[PropDecl],
+    up: &[PropDecl],
+) -> Result<Names, AllocError>
+    ensures { IfOk result (λ names. names ≡ ((name.now, params.now), (down.now, up.now))) }
+{
+    let words = both(copy_plain(alloc, name), copy_list(alloc, params));
+    let properties = both(copy_list(alloc, down), copy_list(alloc, up));
+    both(words, properties)
+}
+
+/// An equal test, and equal steps of both sides.
+fn copy_rules(
+    alloc: Global,
+    test: &Cond,
+    down_step: &[StepExpr],
+    up_step: &[StepExpr],
+) -> Result<Rules, AllocError>
+    ensures { IfOk result (λ rules. rules ≡ (test.now, (down_step.now, up_step.now))) }
+{
+    let steps = both(copy_list(alloc, down_step), copy_list(alloc, up_step));
+    both(copy_cond(alloc, test), steps)
 }
