@@ -7,7 +7,8 @@ use Rattle.hk_spec.specs.declared.expressions.Side.TheVariants.{Down, Up}
 use Rattle.hk_text.specs.Lexemes.{IsWord}
 use Rattle.hk_terms.specs.CondTexts.{CondText, cond_texts, IsCondText}
 use Rattle.hk_parse.specs.inside.Headers.{ArePropertyTexts}
-use Rattle.hk_parse.specs.LineTexts.{LineText, ParamText, Begin, Property, Test, Step, End, InitText, StepText, side_word, step_texts, IsStepText, SaysLine}
+use Rattle.hk_parse.specs.BlockLines.{Part, MayStand}
+use Rattle.hk_parse.specs.LineTexts.{LineText, Begin, Property, Test, Step, End, InitText, StepText, side_word, step_texts, IsStepText, SaysLine}
 use Rattle.hk_text.proofs.TokenTexts.{apart, same_rest}
 
 -- a side has one word
@@ -49,18 +50,14 @@ step_line (Test c) says P here = absurd (apart 0 refl says.texts_are refl)
 step_line (Step name step) says P here = here name step says.written.0 says.written.1 (same_rest refl says.texts_are)
 step_line End says P here = absurd (apart 0 refl says.texts_are refl)
 
--- texts that begin with none of these words are no line after the first
-pub no_line : {texts : List (List ℕ)} {P : Type 0}
-    → ((rest : List (List ℕ)) → texts ≡ codes "down" ∷ rest → P)
-    → ((rest : List (List ℕ)) → texts ≡ codes "up" ∷ rest → P)
-    → ((rest : List (List ℕ)) → texts ≡ codes "test" ∷ rest → P)
-    → ((rest : List (List ℕ)) → texts ≡ codes "step" ∷ rest → P)
-    → (texts ≡ codes "end" ∷ [] → P)
-    → ((name : List ℕ) (params : List ParamText) → SaysLine texts (Begin name params) → P)
-    → (line : LineText) → SaysLine texts line → P
-no_line down up test step end begin (Begin name params) says = begin name params says
-no_line down up test step end begin (Property Down name kind init) says = down _ says.texts_are
-no_line down up test step end begin (Property Up name kind init) says = up _ says.texts_are
-no_line down up test step end begin (Test c) says = test _ says.texts_are
-no_line down up test step end begin (Step name s) says = step _ says.texts_are
-no_line down up test step end begin End says = end says.texts_are
+-- texts that begin with none of these words are no line that may stand
+pub no_line : (part : Part) {texts : List (List ℕ)}
+    → ((rest : List (List ℕ)) → texts ≡ codes "down" ∷ rest → ⊥) → ((rest : List (List ℕ)) → texts ≡ codes "up" ∷ rest → ⊥)
+    → ((rest : List (List ℕ)) → texts ≡ codes "test" ∷ rest → ⊥) → ((rest : List (List ℕ)) → texts ≡ codes "step" ∷ rest → ⊥) → (texts ≡ codes "end" ∷ [] → ⊥)
+    → (line : LineText) → SaysLine texts line → MayStand part line → ⊥
+no_line part down up test step end (Begin name params) says stands = stands
+no_line part down up test step end (Property Down name kind init) says stands = down _ says.texts_are
+no_line part down up test step end (Property Up name kind init) says stands = up _ says.texts_are
+no_line part down up test step end (Test c) says stands = test _ says.texts_are
+no_line part down up test step end (Step name s) says stands = step _ says.texts_are
+no_line part down up test step end End says stands = end says.texts_are

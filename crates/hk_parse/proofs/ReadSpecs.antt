@@ -1,5 +1,5 @@
 -- How far a specification is read, line by line.
-use Rattle.std.proofs.Common.{◌≡◌, ℕ, ◌+◌, ◌<◌, ◌≤◌, ◌==◌, inl, inr, List, [], ◌∷◌, ◌++◌, Bool, true, false, Result, Ok, Err, IfErr, length, refl, ap, sym, ◌∙◌, subst, arith, append_assoc, length-append}
+use Rattle.std.proofs.Common.{◌≡◌, ℕ, ◌+◌, ◌<◌, ◌≤◌, ◌==◌, inl, inr, List, [], ◌∷◌, ◌++◌, Bool, true, false, Result, Ok, Err, IfOk, IfErr, length, refl, ap, sym, ◌∙◌, subst, arith, append_assoc, length-append}
 use Rattle.std.proofs.lemmas.Bool.Decides.{nat_tests}
 use Rattle.std.proofs.lemmas.List.{append-nil, nil_from_length}
 use Rattle.hk_spec.specs.Specifications.{Specification}
@@ -16,6 +16,7 @@ use Rattle.hk_parse.specs.SpecTexts.{Stage, Before, Within, Whole, IsGoodLine, g
 use Rattle.hk_parse.specs.inside.Stages.{StopsAt, text_fault, fault_of}
 use Rattle.hk_parse.specs.declared.faults.BlockFault.{BlockFault}
 use Rattle.hk_parse.specs.declared.faults.BlockFault.TheVariants.{Syntax, Name, Limit, Memory}
+use Rattle.hk_parse.specs.declared.faults.SpecFault.{SpecFault}
 use Rattle.hk_parse.specs.declared.faults.SpecFault.TheVariants as spec
 use Rattle.hk_text.proofs.TokenTexts.{texts_over, texts_go_on}
 
@@ -117,6 +118,16 @@ module _ {bytes : List ℕ} {stage : Stage} {rest : List ℕ} {number : ℕ} (re
 -- the answer where the end is read
 pub whole_read : {bytes : List ℕ} {s : Specification} {rest : List ℕ} {number : ℕ} → Reached bytes (Whole s) rest number → (length rest == 0) ≡ true → WritesSpec bytes s
 whole_read reached over = all_good reached over
+
+-- the answer about the last stage is one about the bytes
+pub whole_answer : {bytes : List ℕ} {stage : Stage} {rest : List ℕ} {number : ℕ} (answer : Result Specification SpecFault) → Reached bytes stage rest number → (length rest == 0) ≡ true → IfOk answer (λ s. stage ≡ Whole s) → IfOk answer (WritesSpec bytes)
+whole_answer {bytes = bytes} {rest = rest} {number = number} (Ok s) reached over is = whole_read (subst (λ stage. Reached bytes stage rest number) is reached) over
+whole_answer (Err fault) reached over is = tt
+
+pub wanting_answer : {bytes : List ℕ} {stage : Stage} {rest : List ℕ} {number : ℕ} (answer : Result Specification SpecFault) → Reached bytes stage rest number → (length rest == 0) ≡ true
+    → IfErr answer (λ fault. (fault ≡ spec.Syntax number) × ((s : Specification) → stage ≡ Whole s → ⊥)) → IfErr answer (IsSpecFault bytes)
+wanting_answer (Ok s) reached over wanting = tt
+wanting_answer {bytes = bytes} (Err fault) reached over wanting = subst (IsSpecFault bytes) (sym wanting.0) (wants_end reached over wanting.1)
 
 -- before the first line there is no end
 pub before_no_end : (s : Specification) → Before ≡ Whole s → ⊥

@@ -1,9 +1,10 @@
 -- The texts of properties, and of kinds.
-use Rattle.std.proofs.Common.{◌≡◌, ℕ, List, ◌∷◌, refl, sym, ◌∙◌, subst}
+use Rattle.std.proofs.Common.{◌≡◌, ℕ, Option, List, ◌∷◌, refl, sym, ap, ap₂, ◌∙◌, subst}
 use Rattle.hk_kinds.specs.declared.kinds.Kind.{Kind}
 use Rattle.hk_kinds.specs.declared.kinds.Kind.TheVariants.{Min, Max, Interval, SomeBits, AllBits}
+use Rattle.hk_kinds.specs.declared.properties.Prop.{Prop}
 use Rattle.hk_text.specs.Lexemes.{IsWord}
-use Rattle.hk_parse.specs.inside.Headers.{ArePropertyTexts}
+use Rattle.hk_parse.specs.inside.Headers.{ArePropertyTexts, ReadsInit, ReadsProperty}
 use Rattle.hk_parse.specs.LineTexts.{InitText, IsInitText, init_texts}
 use Rattle.hk_print.specs.Printed.{kind_word}
 use Rattle.hk_text.proofs.TokenTexts.{differ, same_first, same_rest}
@@ -63,3 +64,11 @@ module _ {texts after : List (List ℕ)} {word : List ℕ} (begins : texts ≡ w
     no_init {kind = kind} {init = init} found is none are =
         let same : kind ≡ found = kind_one kind found (same_first (same_rest begins are.texts_are) goes_on ∙ sym is) in
         none init (subst (λ k. IsInitText k init) same are.written) (same_rest goes_on (same_rest begins are.texts_are))
+
+-- a name, the word of a kind and an initial value are a property
+pub property_read : {texts after rest : List (List ℕ)} {name word : List ℕ} {kind : Kind} {made : Option Prop} → texts ≡ name ∷ after → IsWord name → after ≡ word ∷ rest → kind_word kind ≡ word → ReadsInit kind rest made → ReadsProperty texts name kind made
+property_read {name = name} begins named second spelled read = record {
+  init = read.text;
+  texts_are = record { texts_are = begins ∙ ap (λ ts. name ∷ ts) (second ∙ ap₂ (λ t ts. t ∷ ts) (sym spelled) read.texts_are); is_word = named; written = read.written };
+  is_made = read.is_made;
+}

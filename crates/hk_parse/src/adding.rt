@@ -1,11 +1,12 @@
 //! The lines of a specification after the first.
 
-ghost use Rattle.std.specs.Prelude.{◌≡◌, ◌∷◌, All, IfOk, IfErr, IfSome, OnOk, OnErr, codes};
+ghost use Rattle.std.specs.Prelude.{◌≡◌, ◌∷◌, ◌<◌, ◌≤◌, ◌⊎◌, [], false, All, IfOk, IfErr, IfSome, IsTrue, OnOk, OnErr, codes, length};
 ghost use Rattle.hk_kinds.specs.Shapes.{IsOfKind};
 ghost use Rattle.hk_text.specs.Lexemes.{IsWord};
 ghost use Rattle.hk_text.specs.Texts.{texts_of};
 ghost use Rattle.hk_parse.specs.BlockFaults.{GoesOn, IsAdded, IsLineFault};
 ghost use Rattle.hk_parse.specs.inside.LineParts.{IsDeclared, IsPropertyFault, IsTestFault};
+ghost use Rattle.hk_parse.specs.BlockLines.{side_of};
 ghost use Rattle.hk_parse.specs.Blocks.{AwaitsProperty};
 ghost use Rattle.hk_parse.specs.LineTexts.{side_word};
 ghost use Rattle.hk_terms.specs.Outcomes.{IsFew};
@@ -33,29 +34,39 @@ impl Block {
         ensures err { IfErr result (IsLineFault self.old (texts_of line.now tokens.now)) }
         ensures unchanged { OnErr result (self.new ≡ self.old) }
     {
-        if let Some(rest) = after_text(line, tokens, b"down") {
-            self.add_property(alloc, Side::Down, line, rest)?;
-            return Ok(false);
-        }
-        if let Some(rest) = after_text(line, tokens, b"up") {
-            self.add_property(alloc, Side::Up, line, rest)?;
-            return Ok(false);
-        }
-        if let Some(rest) = after_text(line, tokens, b"test") {
-            self.add_test(alloc, line, rest)?;
-            return Ok(false);
-        }
-        if let Some(rest) = after_text(line, tokens, b"step") {
-            self.add_step(alloc, line, rest)?;
-            return Ok(false);
-        }
         if !is_only(line, tokens, b"end") {
-            return Err(BlockFault::Syntax);
+            return match self.add_part(alloc, line, tokens) {
+                Ok(()) => Ok(false),
+                Err(fault) => Err(fault),
+            };
         }
         if !self.awaits_end() {
             return Err(BlockFault::Syntax);
         }
         Ok(true)
+    }
+
+    /// Adds what a line says that isn't the end.
+    fn add_part(&mut self, alloc: Global, line: &[u8], tokens: &[Token]) -> Result<(), BlockFault>
+        requires tokens { All (IsTokenIn line.now) tokens.now }
+        requires goes_on { texts_of line.now tokens.now ≡ codes "end" ∷ [] → ⊥ }
+        ensures ok { OnOk result (GoesOn self.old (texts_of line.now tokens.now) self.new) }
+        ensures err { IfErr result (IsLineFault self.old (texts_of line.now tokens.now)) }
+        ensures unchanged { OnErr result (self.new ≡ self.old) }
+    {
+        if let Some(rest) = after_text(line, tokens, b"down") {
+            return self.add_property(alloc, Side::Down, line, rest);
+        }
+        if let Some(rest) = after_text(line, tokens, b"up") {
+            return self.add_property(alloc, Side::Up, line, rest);
+        }
+        if let Some(rest) = after_text(line, tokens, b"test") {
+            return self.add_test(alloc, line, rest);
+        }
+        if let Some(rest) = after_text(line, tokens, b"step") {
+            return self.add_step(alloc, line, rest);
+        }
+        Err(BlockFault::Syntax)
     }
 
     /// Adds the property that the tokens say after the word of its side.
@@ -97,10 +108,7 @@ impl Block {
         if self.is_taken(property.name) {
             return Err(BlockFault::Name);
         }
-        if property.name.len() > NAME_BYTES {
-            return Err(BlockFault::Limit);
-        }
-        if self.is_full(side) {
+        if self.passes_limit(side, property.name) {
             return Err(BlockFault::Limit);
         }
         let Some(init) = property.init else {
@@ -118,6 +126,17 @@ impl Block {
             Ok(()) => Ok(()),
             Err(_) => Err(BlockFault::Memory),
         }
+    }
+
+    /// Whether the name of a property is too long, or its side is full.
+    fn passes_limit(&self, side: Side, name: &[u8]) -> bool
+        ensures passes { IsTrue result → (32 < length name.now) ⊎ (32 ≤ length (side_of self.now side)) }
+        ensures fits { result ≡ false → (length name.now ≤ 32) × (length (side_of self.now side) < 32) }
+    {
+        if name.len() > NAME_BYTES {
+            return true;
+        }
+        self.is_full(side)
     }
 
     /// Adds the test that the tokens say after the word `test`.

@@ -25,6 +25,7 @@ use hk_terms::Names;
 use hk_text::Token;
 use std::alloc::{AllocError, Global};
 use std::marker::Model;
+use std::mem::replace;
 
 /// What the lines of a specification say so far.
 #[derive(Debug, Drop)]
@@ -77,13 +78,19 @@ impl Block {
         ensures ok { IfOk result (Begins name.now (map plain_param params.now)) }
         ensures err { IfErr result (IsHeaderFault name.now (map plain_param params.now)) }
     {
-        if has_taken_name(alloc, params).map_err(|_| BlockFault::Memory)? {
+        let Ok(taken) = has_taken_name(alloc, params) else {
+            return Err(BlockFault::Memory);
+        };
+        if taken {
             return Err(BlockFault::Name);
         }
         if passes_limit(name, params) {
             return Err(BlockFault::Limit);
         }
-        Block::with_header(alloc, name, params).map_err(|_| BlockFault::Memory)
+        match Block::with_header(alloc, name, params) {
+            Ok(block) => Ok(block),
+            Err(_) => Err(BlockFault::Memory),
+        }
     }
 
     /// The specification with this name and these parameters, and nothing more.
@@ -185,7 +192,8 @@ impl Block {
         requires { FitsTest self.old test }
         ensures { self.new ≡ record self.old { test = Some test } }
     {
-        self.test = Some(test);
+        // An assignment would write out the drop of what stood there, which is nothing.
+        drop(replace(&mut self.test, Some(test)));
     }
 
     /// The property whose step is due, where one is.

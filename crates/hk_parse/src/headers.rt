@@ -1,6 +1,6 @@
 //! The first line of a specification.
 
-ghost use Rattle.std.specs.Prelude.{◌≡◌, ◌∷◌, ◌↔◌, [], All, ℕ, List as Seq, IsTrue, IfOk, IfSome, IsNone, length, map, nat_lt};
+ghost use Rattle.std.specs.Prelude.{◌≡◌, ◌∷◌, ◌↔◌, [], false, All, ℕ, List as Seq, IsTrue, IfOk, IfSome, IsNone, length, map, nat_lt};
 ghost use Rattle.std.specs.List.{list_any};
 ghost use Rattle.std.specs.Str.{bytes_eq};
 ghost use Rattle.hk_spec.specs.declared.parts.ParamKind.{ParamKind};
@@ -18,6 +18,12 @@ use hk_spec::{Param, ParamKind};
 use hk_text::{Token, after_text, word_of};
 use indexmap::IndexSet;
 use std::alloc::{AllocError, Global};
+
+/// The words that have a meaning of their own in expressions.
+const RESERVED_WORDS: [&[u8]; 17] = [
+    b"v", b"i", b"n", b"best", b"card", b"min", b"max", b"lo", b"hi", b"in", b"notin", b"sub",
+    b"and", b"or", b"not", b"true", b"false",
+];
 
 /// A parameter as it is written: what it stands for, and its name.
 #[derive(Clone, Copy)]
@@ -69,13 +75,37 @@ fn params_of<'a>(
     ensures none { IfOk result (λ read. IsNone read → (params : Seq ParamText) → AreParams (texts_of line.now tokens.now) params → ⊥) }
 {
     let mut params = List::new(alloc);
+    match read_params(&mut params, line, tokens) {
+        Ok(true) => Ok(Some(params)),
+        Ok(false) => {
+            drop(params);
+            Ok(None)
+        }
+        Err(error) => {
+            drop(params);
+            Err(error)
+        }
+    }
+}
+
+/// Reads the parameters that the tokens say up to a closing parenthesis: whether they end with one.
+fn read_params<'a>(
+    params: &mut List<ParamWords<'a>>,
+    line: &'a [u8],
+    tokens: &[Token],
+) -> Result<bool, AllocError>
+    requires tokens { All (IsTokenIn line.now) tokens.now }
+    requires empty { params.old ≡ [] }
+    ensures some { IfOk result (λ read. IsTrue read → AreParams (texts_of line.now tokens.now) (map plain_param params.new)) }
+    ensures none { IfOk result (λ read. read ≡ false → (all : Seq ParamText) → AreParams (texts_of line.now tokens.now) all → ⊥) }
+{
     if is_only(line, tokens, b")") {
-        return Ok(Some(params));
+        return Ok(true);
     }
     let mut rest = tokens;
     'params: loop {
         let Some((param, after)) = param_of(line, rest) else {
-            return Ok(None);
+            return Ok(false);
         };
         params.push(param)?;
         if let Some(more) = after_text(line, after, b",") {
@@ -83,9 +113,9 @@ fn params_of<'a>(
             continue;
         }
         if !is_only(line, after, b")") {
-            return Ok(None);
+            return Ok(false);
         }
-        return Ok(Some(params));
+        return Ok(true);
     }
 }
 
@@ -107,12 +137,16 @@ fn param_kind(word: &[u8]) -> Option<ParamKind>
     ensures some { IfSome result (λ kind. param_word kind ≡ word.now) }
     ensures none { IsNone result → (kind : ParamKind) → param_word kind ≡ word.now → ⊥ }
 {
-    match word {
-        b"num" => Some(ParamKind::Num),
-        b"set" => Some(ParamKind::Set),
-        b"list" => Some(ParamKind::List),
-        _ => None,
+    if word == b"num".as_slice() {
+        return Some(ParamKind::Num);
     }
+    if word == b"set".as_slice() {
+        return Some(ParamKind::Set);
+    }
+    if word == b"list".as_slice() {
+        return Some(ParamKind::List);
+    }
+    None
 }
 
 /// Whether there is one token, with this text.
@@ -148,6 +182,19 @@ fn have_distinct_names(alloc: Global, params: &[ParamWords<'_>]) -> Result<bool,
     ensures { IfOk result (λ distinct. distinct ≡ are_distinct (param_names (map plain_param params.now))) }
 {
     let mut seen = IndexSet::new(alloc);
+    let distinct = add_names(&mut seen, params);
+    drop(seen);
+    distinct
+}
+
+/// Adds the names of parameters up to one that stands there already: whether there is none.
+fn add_names<'a>(
+    seen: &mut IndexSet<&'a [u8]>,
+    params: &[ParamWords<'a>],
+) -> Result<bool, AllocError>
+    requires { seen.old.keys ≡ [] }
+    ensures { IfOk result (λ distinct. distinct ≡ are_distinct (param_names (map plain_param params.now))) }
+{
     for param in params {
         if !seen.insert(param.name)? {
             return Ok(false);
@@ -160,25 +207,14 @@ fn have_distinct_names(alloc: Global, params: &[ParamWords<'_>]) -> Result<bool,
 pub fn is_reserved(word: &[u8]) -> bool
     ensures { result ≡ list_any (bytes_eq word.now) reserved_words }
 {
-    matches!(
-        word,
-        b"v" | b"i"
-            | b"n"
-            | b"best"
-            | b"card"
-            | b"min"
-            | b"max"
-            | b"lo"
-            | b"hi"
-            | b"in"
-            | b"notin"
-            | b"sub"
-            | b"and"
-            | b"or"
-            | b"not"
-            | b"true"
-            | b"false"
-    )
+    is_among(word, &RESERVED_WORDS)
+}
+
+/// Whether a word is one of these.
+fn is_among(word: &[u8], words: &[&[u8]]) -> bool
+    ensures { result ≡ list_any (λ other. bytes_eq word.now other.now) words.now }
+{
+    words.iter().any(|other| word == *other)
 }
 
 /// Whether a name of a first line is too long, or its parameters are too many.

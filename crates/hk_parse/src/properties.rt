@@ -41,14 +41,22 @@ fn kind_of(word: &[u8]) -> Option<Kind>
     ensures some { IfSome result (λ kind. kind_word kind ≡ word.now) }
     ensures none { IsNone result → (kind : Kind) → kind_word kind ≡ word.now → ⊥ }
 {
-    match word {
-        b"Min" => Some(Kind::Min),
-        b"Max" => Some(Kind::Max),
-        b"Interval" => Some(Kind::Interval),
-        b"SomeBits" => Some(Kind::SomeBits),
-        b"AllBits" => Some(Kind::AllBits),
-        _ => None,
+    if word == b"Min".as_slice() {
+        return Some(Kind::Min);
     }
+    if word == b"Max".as_slice() {
+        return Some(Kind::Max);
+    }
+    if word == b"Interval".as_slice() {
+        return Some(Kind::Interval);
+    }
+    if word == b"SomeBits".as_slice() {
+        return Some(Kind::SomeBits);
+    }
+    if word == b"AllBits".as_slice() {
+        return Some(Kind::AllBits);
+    }
+    None
 }
 
 /// The initial value of a property of this kind that the tokens say, where they say one.

@@ -1,11 +1,13 @@
 //! The reader of a specification, which goes through its lines.
 
 ghost use Rattle.std.specs.Prelude.{◌≡◌, ◌≤◌, ◌≢◌, [], All, IfOk, IfErr, length};
+ghost use Rattle.hk_spec.specs.Specifications.{Specification};
 ghost use Rattle.hk_text.specs.Texts.{texts_of};
 ghost use Rattle.hk_text.specs.Tokens.{AreTokensOf};
 ghost use Rattle.hk_text.specs.Tokens.{IsTokenIn};
-ghost use Rattle.hk_parse.specs.SpecTexts.{IsFaultAt, Before, IsGoodLine, IsSpecFault, Within, WritesSpec};
+ghost use Rattle.hk_parse.specs.SpecTexts.{IsFaultAt, Before, IsGoodLine, IsSpecFault, Whole, Within, WritesSpec};
 ghost use Rattle.hk_parse.specs.inside.Stages.{StopsAt, fault_of, stage_of, text_fault};
+ghost use Rattle.hk_parse.specs.declared.faults.SpecFault.TheVariants as spec_fault;
 
 use crate::blocks::Block;
 use crate::faults::{BlockFault, SpecFault};
@@ -14,7 +16,7 @@ use hk_text::{TextFault, Token, split_line, tokens};
 use std::alloc::Global;
 
 /// How far a specification is read.
-#[derive(Debug, Drop)]
+#[derive(Drop)]
 enum Reading {
     /// No line of it was read.
     Before,
@@ -43,10 +45,21 @@ pub fn read_spec(alloc: Global, bytes: &[u8]) -> Result<Spec, SpecFault>
         rest = after;
         number += 1;
     }
+    whole_of(reading, number)
+}
+
+/// The whole specification. Else the fault is that its end is wanting at the line of this number.
+fn whole_of(reading: Reading, number: u32) -> Result<Spec, SpecFault>
+    ensures spec { IfOk result (λ spec. stage_of reading ≡ Whole spec) }
+    ensures fault { IfErr result (λ fault. (fault ≡ spec_fault.Syntax number) × ((spec : Specification) → stage_of reading ≡ Whole spec → ⊥)) }
+{
     match reading {
         Reading::Whole(spec) => Ok(spec),
         Reading::Before => Err(SpecFault::Syntax(number)),
-        Reading::Within(_) => Err(SpecFault::Syntax(number)),
+        Reading::Within(block) => {
+            drop(block);
+            Err(SpecFault::Syntax(number))
+        }
     }
 }
 
@@ -57,8 +70,15 @@ fn read_line(alloc: Global, reading: Reading, line: &[u8]) -> Result<Reading, Bl
     ensures err { IfErr result (StopsAt (stage_of reading) line.now) }
 {
     match tokens(alloc, line) {
-        Ok(found) => read_tokens(alloc, reading, line, found.as_slice()),
-        Err(fault) => Err(text_fault(fault)),
+        Ok(found) => {
+            let next = read_tokens(alloc, reading, line, found.as_slice());
+            drop(found);
+            next
+        }
+        Err(fault) => {
+            drop(reading);
+            Err(text_fault(fault))
+        }
     }
 }
 
@@ -80,7 +100,10 @@ fn read_tokens(
     match reading {
         Reading::Before => read_first(alloc, line, tokens),
         Reading::Within(block) => read_later(alloc, block, line, tokens),
-        Reading::Whole(_) => Err(BlockFault::Syntax),
+        Reading::Whole(spec) => {
+            drop(spec);
+            Err(BlockFault::Syntax)
+        }
     }
 }
 
@@ -91,7 +114,10 @@ fn read_first(alloc: Global, line: &[u8], tokens: &[Token]) -> Result<Reading, B
     ensures ok { IfOk result (λ next. IsGoodLine Before line.now (stage_of next)) }
     ensures err { IfErr result (IsFaultAt Before (texts_of line.now tokens.now)) }
 {
-    Ok(Reading::Within(Block::begin(alloc, line, tokens)?))
+    match Block::begin(alloc, line, tokens) {
+        Ok(block) => Ok(Reading::Within(block)),
+        Err(fault) => Err(fault),
+    }
 }
 
 /// How far the specification is read after the tokens of a line after the first.
@@ -106,10 +132,14 @@ fn read_later(
     ensures ok { IfOk result (λ next. IsGoodLine (Within block) line.now (stage_of next)) }
     ensures err { IfErr result (IsFaultAt (Within block) (texts_of line.now tokens.now)) }
 {
-    if block.add(alloc, line, tokens)? {
-        return Ok(Reading::Whole(block.finish()));
+    match block.add(alloc, line, tokens) {
+        Ok(true) => Ok(Reading::Whole(block.finish())),
+        Ok(false) => Ok(Reading::Within(block)),
+        Err(fault) => {
+            drop(block);
+            Err(fault)
+        }
     }
-    Ok(Reading::Within(block))
 }
 
 /// The fault of a line whose bytes have this fault.

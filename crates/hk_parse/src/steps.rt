@@ -1,12 +1,12 @@
 //! The steps of properties.
 
-ghost use Rattle.std.specs.Prelude.{All, ℕ, IfOk, IfErr, IfSome, IsNone};
+ghost use Rattle.std.specs.Prelude.{◌≡◌, All, ℕ, IfOk, IfErr, IfSome, IsNone};
 ghost use Rattle.hk_kinds.specs.declared.kinds.Kind.{Kind};
 ghost use Rattle.hk_text.specs.Texts.{texts_of};
 ghost use Rattle.hk_parse.specs.LineTexts.{StepText};
 ghost use Rattle.hk_terms.specs.Outcomes.{IsFew};
 ghost use Rattle.hk_text.specs.Tokens.{IsTokenIn};
-ghost use Rattle.hk_parse.specs.inside.StepReads.{AreStepTexts, IsNamed, IsStepFault, ReadsStep, ReadsStepOf};
+ghost use Rattle.hk_parse.specs.inside.StepReads.{AreStepTexts, IsNamed, IsStepFault, ReadsStep, ReadsStepOf, or_fault};
 
 use crate::faults::BlockFault;
 use hk_exprs::{read_num, read_pair, read_set};
@@ -48,10 +48,18 @@ fn named_step(
     ensures { IsNamed name.now property.now.name made result }
 {
     if name != property.name.as_slice() {
+        drop(made);
         return Err(BlockFault::Name);
     }
+    or_fault(made)
+}
+
+/// What was made, or the fault of its flaw.
+fn or_fault<T: Drop>(made: Result<T, Flaw>) -> Result<T, BlockFault>
+    ensures { result ≡ or_fault made }
+{
     match made {
-        Ok(step) => Ok(step),
+        Ok(value) => Ok(value),
         Err(Flaw::Name) => Err(BlockFault::Name),
         Err(Flaw::Limit) => Err(BlockFault::Limit),
     }

@@ -61,3 +61,9 @@ IsNamed name own (Err Name) (Err fault.Name) = Unit {0}
 IsNamed name own (Err Limit) (Err fault.Name) = name ≡ own → ⊥
 IsNamed name own (Err Limit) (Err fault.Limit) = name ≡ own
 IsNamed name own _ _ = ⊥
+
+-- what was made, or the fault of its flaw
+abbrev pub or_fault : {X : Type 0} → Result X Flaw → Result X BlockFault
+or_fault (Ok x) = Ok x
+or_fault (Err Name) = Err fault.Name
+or_fault (Err Limit) = Err fault.Limit

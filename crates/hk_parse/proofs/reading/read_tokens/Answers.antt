@@ -16,6 +16,6 @@ pub returns-in-Within-clause-err : goal.returns-in-Within-clause-err
 returns-in-Within-clause-err c = subst (λ r. IfErr c.read_later.result (StopsAt (stage_of r) c.args.line.now)) (sym c.in-Within.is)
     (made_stops c.args.line.now c.args.tokens.now (Within c.in-Within.block) c.read_later.result c.requires.split (sym c.if-is_empty.ensures) c.read_later.ensures.err)
 
-pub returns-clause-err : goal.returns-clause-err
-returns-clause-err c = subst (λ r. StopsAt (stage_of r) c.args.line.now Syntax) (sym c.in-Whole.is)
-    (whole_stops c.args.line.now c.args.tokens.now c.in-Whole.field-0 c.requires.split (sym c.if-is_empty.ensures))
+pub returns-in-Whole-clause-err : goal.returns-in-Whole-clause-err
+returns-in-Whole-clause-err c = subst (λ r. StopsAt (stage_of r) c.args.line.now Syntax) (sym c.in-Whole.is)
+    (whole_stops c.args.line.now c.args.tokens.now c.in-Whole.spec c.requires.split (sym c.if-is_empty.ensures))

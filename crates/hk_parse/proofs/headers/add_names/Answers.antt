@@ -6,7 +6,7 @@ use Rattle.hk_parse.specs.inside.Headers.{plain_param}
 use Rattle.hk_parse.specs.declared.headers.ParamWords.{ParamWords}
 use Rattle.hk_spec.specs.declared.parts.ParamKind.TheVariants.{Num}
 use Rattle.hk_terms.proofs.NameLists.{seen_twice, seen_more}
-use Rattle.hk_parse.proofs.headers.have_distinct_names.Goals as goal
+use Rattle.hk_parse.proofs.headers.add_names.Goals as goal
 
 abbrev none : ParamWords
 none = record { kind = Num; name = record { ref_ptr = (0, 0); now = [] } }

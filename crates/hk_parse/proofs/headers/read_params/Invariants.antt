@@ -3,7 +3,7 @@ use Rattle.hk_text.specs.Texts.{texts_of}
 use Rattle.hk_parse.specs.inside.Headers.{plain_param}
 use Rattle.hk_text.specs.Tokens.{IsTokenIn}
 use Rattle.hk_parse.proofs.Parameters.{ParamsSoFar}
-use Rattle.hk_parse.proofs.headers.params_of.Given as goal
+use Rattle.hk_parse.proofs.headers.read_params.Given as goal
 
 abbrev pub invariant-params : goal.invariant-params
 invariant-params l = record {

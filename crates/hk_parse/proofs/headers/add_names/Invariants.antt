@@ -3,7 +3,7 @@ use Rattle.hk_spec.specs.Names.{are_distinct}
 use Rattle.hk_parse.specs.BlockLines.{param_names}
 use Rattle.hk_parse.specs.inside.Headers.{plain_param}
 use Rattle.hk_terms.proofs.NameLists.{now_of}
-use Rattle.hk_parse.proofs.headers.have_distinct_names.Given as goal
+use Rattle.hk_parse.proofs.headers.add_names.Given as goal
 
 abbrev pub invariant-loop-param : goal.invariant-loop-param
 invariant-loop-param l = record {
