@@ -1,4 +1,5 @@
 pub mod BestScope
+pub mod Joined
 pub mod Lines
 pub mod PrintedExpressions
 pub mod PrintedLines

@@ -9,6 +9,7 @@ use Rattle.hk_text.proofs.Appending.{AppendsFront-after, AppendsFront-first}
 use Rattle.hk_print.specs.Printed.{lines_text, step_line, step_lines}
 use Rattle.hk_print.specs.Expressions.{Naming}
 use Rattle.hk_print.specs.Pieces.{line_text, piece, spaced}
+use Rattle.hk_print.proofs.Joined.{appended_after, AppendsFront-none}
 use Rattle.hk_print.proofs.Spacing.{spaced_append}
 
 -- the text of a line that begins with a word and a name
@@ -36,6 +37,26 @@ line_rest word name shown more old middle next new named before then part =
     (AppendsFront-after old middle new word (spaced (piece name) ++ left) before
     (AppendsFront-after middle next new (spaced (piece name)) left (then ∙ ap (λ text. middle ++ spaced (piece text)) named)
     (AppendsFront-first next new (spaced more) (codes "\n") part)))
+
+-- the whole line
+pub line_whole : (word name shown : List ℕ) (more : List (List (List ℕ))) (old middle next last new : List ℕ) → shown ≡ name → middle ≡ old ++ word → next ≡ middle ++ spaced (piece shown) → last ≡ next ++ spaced more
+    → new ≡ last ++ codes "\n" → new ≡ old ++ line_text (piece word ++ (piece name ++ more))
+line_whole word name shown more old middle next last new named before then rest ended =
+    let left = spaced more ++ codes "\n" in
+    subst (λ (text : List ℕ). new ≡ old ++ text) (sym (line_parts word name more))
+    (appended_after old middle new word (spaced (piece name) ++ left) before
+    (appended_after middle next new (spaced (piece name)) left (then ∙ ap (λ text. middle ++ spaced (piece text)) named)
+    (appended_after next last new (spaced more) (codes "\n") rest ended)))
+
+-- all of the line but its end
+pub line_end : (word name shown : List ℕ) (more : List (List (List ℕ))) (old middle next last new : List ℕ) → shown ≡ name → middle ≡ old ++ word → next ≡ middle ++ spaced (piece shown) → last ≡ next ++ spaced more
+    → new ≡ last → AppendsFront old new (line_text (piece word ++ (piece name ++ more)))
+line_end word name shown more old middle next last new named before then rest same =
+    let left = spaced more ++ codes "\n" in
+    subst (AppendsFront old new) (sym (line_parts word name more))
+    (AppendsFront-after old middle new word (spaced (piece name) ++ left) before
+    (AppendsFront-after middle next new (spaced (piece name)) left (then ∙ ap (λ text. middle ++ spaced (piece text)) named)
+    (AppendsFront-after next last new (spaced more) (codes "\n") rest (AppendsFront-none last new (codes "\n") same))))
 
 -- a front of the first lines
 pub lines_first : (old new : List ℕ) (first more : List (List (List (List ℕ)))) → AppendsFront old new (lines_text first) → AppendsFront old new (lines_text (first ++ more))

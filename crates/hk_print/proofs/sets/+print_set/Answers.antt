@@ -1,12 +1,28 @@
 use Rattle.std.proofs.Common.{◌++◌, codes}
-use Rattle.hk_text.proofs.Appending.{AppendsFront-first, OnErr-always}
+use Rattle.hk_text.proofs.Appending.{OnErr-always, OnErr-then}
 use Rattle.hk_print.specs.Expressions.{naming_of, set_pieces}
 use Rattle.hk_print.specs.Pieces.{spaced}
+use Rattle.hk_print.proofs.Joined.{OnOk-then, one_begun, two_appended, two_halved, two_unended}
 use Rattle.hk_print.proofs.sets.+print_set.Goals as goal
 
 pub print_sets-returns-in_err-print_set_after-clause-err : goal.print_sets-returns-in_err-print_set_after-clause-err
 print_sets-returns-in_err-print_set_after-clause-err t c =
-    let a = spaced (set_pieces (naming_of c.args.spec.now) c.args.a.now) in
-    let b = spaced (set_pieces (naming_of c.args.spec.now) c.args.b.now) in
-    OnErr-always c.from_residual.result
-    (AppendsFront-first c.args.out.now c.print_set_after.new.out (codes " (" ++ a) (c.args.between.now ++ (b ++ codes " )")) c.in_err-print_set_after.ensures.err)
+    let rest = c.args.between.now ++ (spaced (set_pieces (naming_of c.args.spec.now) c.args.b.now) ++ codes " )") in
+    OnErr-always c.from_residual.result (one_begun c.args.out.now (codes " (") (spaced (set_pieces (naming_of c.args.spec.now) c.args.a.now)) rest c.print_set_after.new.out c.in_err-print_set_after.ensures.err)
+
+pub print_sets-returns-in_err-print_set_after-2-clause-err : goal.print_sets-returns-in_err-print_set_after-2-clause-err
+print_sets-returns-in_err-print_set_after-2-clause-err t c =
+    OnErr-always c.from_residual-in_err-print_set_after-2.result
+    (two_halved c.args.out.now (codes " (") (spaced (set_pieces (naming_of c.args.spec.now) c.args.a.now)) c.args.between.now (spaced (set_pieces (naming_of c.args.spec.now) c.args.b.now)) (codes " )") c.print_set_after.new.out c.print_set_after-2.new.out c.in_ok-print_set_after.ensures.ok c.in_err-print_set_after-2.ensures.err)
+
+pub print_sets-returns-clause-ok : goal.print_sets-returns-clause-ok
+print_sets-returns-clause-ok t c =
+    OnOk-then c.push_all.result
+    (two_appended c.args.out.now (codes " (") (spaced (set_pieces (naming_of c.args.spec.now) c.args.a.now)) c.args.between.now (spaced (set_pieces (naming_of c.args.spec.now) c.args.b.now)) (codes " )") c.print_set_after.new.out c.print_set_after-2.new.out c.push_all.new.self c.in_ok-print_set_after.ensures.ok c.in_ok-print_set_after-2.ensures.ok)
+    c.push_all.ensures.ok
+
+pub print_sets-returns-clause-err : goal.print_sets-returns-clause-err
+print_sets-returns-clause-err t c =
+    OnErr-then c.push_all.result
+    (two_unended c.args.out.now (codes " (") (spaced (set_pieces (naming_of c.args.spec.now) c.args.a.now)) c.args.between.now (spaced (set_pieces (naming_of c.args.spec.now) c.args.b.now)) (codes " )") c.print_set_after.new.out c.print_set_after-2.new.out c.push_all.new.self c.in_ok-print_set_after.ensures.ok c.in_ok-print_set_after-2.ensures.ok)
+    c.push_all.ensures.err
