@@ -2,7 +2,6 @@ pub mod Bindings
 pub mod CappedPosts
 pub mod CappedStatements
 pub mod Distinct
-pub mod Domains
 pub mod EachLine
 pub mod Effects
 pub mod FaultRanks

@@ -26,13 +26,19 @@ pub fn post(
     alloc: Global,
     draft: &mut Draft,
     specs: &[Spec],
-    shape: PostShape<'_>,
+    shape: &PostShape<'_>,
 ) -> Result<(), LineFault>
-    ensures ok { OnOk result (AddsPost specs.now (plain_post shape.entry) draft.old draft.new) }
-    ensures err { IfErr result (IsPostFault specs.now draft.old (plain_post shape.entry)) }
+    ensures ok { OnOk result (AddsPost specs.now (plain_post shape.now) draft.old draft.new) }
+    ensures err { IfErr result (IsPostFault specs.now draft.old (plain_post shape.now)) }
 {
-    let PostShape { spec, args, names } = shape;
-    add_post(alloc, draft, specs, spec, args.as_slice(), names.as_slice())
+    add_post(
+        alloc,
+        draft,
+        specs,
+        shape.spec,
+        shape.args.as_slice(),
+        shape.names.as_slice(),
+    )
 }
 
 /// Declares that the specification of this name, with these arguments, accepts the values of the
@@ -53,17 +59,24 @@ fn add_post(
     };
     let scope = places_of(alloc, draft, names)?;
     if post_passes_limit(draft, args, names.len()) {
+        drop(scope);
         return Err(LineFault::Bad(RefusalKind::Limit));
     }
     if !is_rising(scope.as_slice()) {
+        drop(scope);
         return Err(LineFault::Bad(RefusalKind::Scope));
     }
     let len = draft.scope_len(scope.as_slice());
-    let bound = bind(alloc, spec, args, len).map_err(|_| LineFault::NoMemory)?;
-    draft
-        .add_constraint(Constraint::User { bound, scope })
-        .map_err(|_| LineFault::NoMemory)?;
-    Ok(())
+    match bind(alloc, spec, args, len) {
+        Ok(bound) => {
+            draft.add_constraint(Constraint::User { bound, scope })?;
+            Ok(())
+        }
+        Err(_) => {
+            drop(scope);
+            Err(LineFault::NoMemory)
+        }
+    }
 }
 
 /// The specification of this name, where the arguments are as its parameters ask.
@@ -182,9 +195,16 @@ fn bind(alloc: Global, spec: &Spec, args: &[PostArg], len: u16) -> Result<Bound,
     ensures args { IfOk result (λ bound. AreArgsOf (args_of args.now) bound.args) }
     ensures len { IfOk result (λ bound. bound.len ≡ len) }
 {
-    let spec = spec.copy(alloc)?;
+    // that a specification keeps its rules is known where a field of it is used
+    let _ = &spec.name;
     let args = bound_args(alloc, args)?;
-    Ok(Bound { spec, args, len })
+    match spec.copy(alloc) {
+        Ok(spec) => Ok(Bound { spec, args, len }),
+        Err(failed) => {
+            drop(args);
+            Err(failed)
+        }
+    }
 }
 
 /// Arguments as a specification takes them.

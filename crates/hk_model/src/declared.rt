@@ -73,12 +73,16 @@ impl Declared {
     {
         let Declared {
             draft,
-            specs: _,
+            specs,
             block,
         } = self;
+        drop(specs);
         if block.is_some() {
+            drop(block);
+            drop(draft);
             return None;
         }
+        drop(block);
         draft
     }
 
@@ -153,8 +157,9 @@ impl Declared {
         ensures ok { OnOk result (Declares self.old.problem (statement_of shape.entry) self.new.problem × (self.new ≡ record self.old { problem = self.new.problem })) }
         ensures err { IfErr result (IsStatementFault self.old.problem (statement_of shape.entry)) }
     {
-        declare(alloc, &mut self.draft, shape)?;
-        Ok(())
+        let answer = declare(alloc, &mut self.draft, &shape);
+        drop(shape);
+        answer
     }
 
     /// Takes the tokens after `post`, outside of a specification.
@@ -177,11 +182,12 @@ impl Declared {
         ensures ok { OnOk result (Posts self.old (plain_post shape.entry) self.new) }
         ensures err { IfErr result (IsPostFaultAfter self.old (plain_post shape.entry)) }
     {
-        let Some(draft) = &mut self.draft else {
-            return Err(LineFault::Bad(RefusalKind::Syntax));
+        let answer = match &mut self.draft {
+            None => Err(LineFault::Bad(RefusalKind::Syntax)),
+            Some(draft) => post(alloc, draft, self.specs.as_slice(), &shape),
         };
-        post(alloc, draft, self.specs.as_slice(), shape)?;
-        Ok(())
+        drop(shape);
+        answer
     }
 
     /// Opens the specification whose first line has these tokens, of which the first is `spec`.
@@ -197,7 +203,7 @@ impl Declared {
             return Err(LineFault::Bad(RefusalKind::Syntax));
         }
         let block = self.begin(alloc, line, tokens)?;
-        self.block = Some(block);
+        drop(self.block.replace(block));
         Ok(())
     }
 
@@ -214,9 +220,17 @@ impl Declared {
     {
         let taken = self.is_taken(line, tokens);
         match Block::begin(alloc, line, tokens) {
-            Ok(_) if taken => Err(LineFault::Bad(RefusalKind::Name)),
-            Ok(_) if self.spec_count() >= SPECIFICATIONS => Err(LineFault::Bad(RefusalKind::Limit)),
-            Ok(block) => Ok(block),
+            Ok(block) => {
+                if taken {
+                    drop(block);
+                    return Err(LineFault::Bad(RefusalKind::Name));
+                }
+                if self.spec_count() >= SPECIFICATIONS {
+                    drop(block);
+                    return Err(LineFault::Bad(RefusalKind::Limit));
+                }
+                Ok(block)
+            }
             Err(fault) => Err(begin_fault(fault, taken)),
         }
     }
@@ -251,9 +265,7 @@ impl Declared {
         let Some(block) = self.block.take() else {
             return Ok(());
         };
-        self.specs
-            .push(block.finish())
-            .map_err(|_| LineFault::NoMemory)?;
+        self.specs.push(block.finish())?;
         Ok(())
     }
 }

@@ -23,15 +23,15 @@ use std::alloc::Global;
 
 /// Declares what a line of this shape says, after what was declared before it: None before the
 /// header.
-pub fn declare(alloc: Global, draft: &mut Option<Draft>, shape: Shape<'_>) -> Result<(), LineFault>
-    ensures ok { OnOk result (Declares draft.old (statement_of shape.entry) draft.new) }
-    ensures err { IfErr result (IsStatementFault draft.old (statement_of shape.entry)) }
+pub fn declare(alloc: Global, draft: &mut Option<Draft>, shape: &Shape<'_>) -> Result<(), LineFault>
+    ensures ok { OnOk result (Declares draft.old (statement_of shape.now) draft.new) }
+    ensures err { IfErr result (IsStatementFault draft.old (statement_of shape.now)) }
 {
     match shape {
         Shape::Start => start(alloc, draft),
         Shape::Variable { name, set } => match draft {
             None => Err(LineFault::Bad(RefusalKind::Syntax)),
-            Some(draft) => declare_variable(alloc, draft, name, set.as_slice()),
+            Some(draft) => declare_variable(alloc, draft, *name, set.as_slice()),
         },
         Shape::Distinct { names } => match draft {
             None => Err(LineFault::Bad(RefusalKind::Syntax)),
@@ -39,7 +39,7 @@ pub fn declare(alloc: Global, draft: &mut Option<Draft>, shape: Shape<'_>) -> Re
         },
         Shape::Total { terms, least, most } => match draft {
             None => Err(LineFault::Bad(RefusalKind::Syntax)),
-            Some(draft) => declare_total(alloc, draft, terms.as_slice(), least, most),
+            Some(draft) => declare_total(alloc, draft, terms.as_slice(), *least, *most),
         },
         Shape::Objective { terms } => match draft {
             None => Err(LineFault::Bad(RefusalKind::Syntax)),
@@ -56,7 +56,7 @@ fn start(alloc: Global, draft: &mut Option<Draft>) -> Result<(), LineFault>
     if draft.is_some() {
         return Err(LineFault::Bad(RefusalKind::Syntax));
     }
-    *draft = Some(Draft::new(alloc));
+    drop(draft.replace(Draft::new(alloc)));
     Ok(())
 }
 
@@ -76,9 +76,7 @@ fn declare_variable(
     if variable_passes_limit(draft, name, set) {
         return Err(LineFault::Bad(RefusalKind::Limit));
     }
-    draft
-        .add_variable(alloc, name, set_of_values(set))
-        .map_err(|_| LineFault::NoMemory)?;
+    draft.add_variable(alloc, name, set_of_values(set))?;
     Ok(())
 }
 
@@ -106,14 +104,14 @@ fn declare_distinct(alloc: Global, draft: &mut Draft, names: &[&[u8]]) -> Result
 {
     let scope = places_of(alloc, draft, names)?;
     if draft.constraint_count() >= CONSTRAINTS {
+        drop(scope);
         return Err(LineFault::Bad(RefusalKind::Limit));
     }
     if !is_rising(scope.as_slice()) {
+        drop(scope);
         return Err(LineFault::Bad(RefusalKind::Scope));
     }
-    draft
-        .add_constraint(Constraint::AllDifferent { scope })
-        .map_err(|_| LineFault::NoMemory)?;
+    draft.add_constraint(Constraint::AllDifferent { scope })?;
     Ok(())
 }
 
@@ -130,21 +128,28 @@ fn declare_total(
 {
     let scope = term_places(alloc, draft, terms)?;
     if total_passes_limit(draft, terms, least, most) {
+        drop(scope);
         return Err(LineFault::Bad(RefusalKind::Limit));
     }
     if !is_rising(scope.as_slice()) {
+        drop(scope);
         return Err(LineFault::Bad(RefusalKind::Scope));
     }
-    let coefs = coefs_of(alloc, terms).map_err(|_| LineFault::NoMemory)?;
-    draft
-        .add_constraint(Constraint::Sum {
-            scope,
-            coefs,
-            least,
-            most,
-        })
-        .map_err(|_| LineFault::NoMemory)?;
-    Ok(())
+    match coefs_of(alloc, terms) {
+        Ok(coefs) => {
+            draft.add_constraint(Constraint::Sum {
+                scope,
+                coefs,
+                least,
+                most,
+            })?;
+            Ok(())
+        }
+        Err(_) => {
+            drop(scope);
+            Err(LineFault::NoMemory)
+        }
+    }
 }
 
 /// Whether a new sum passes a limit.
@@ -178,17 +183,27 @@ fn declare_objective(alloc: Global, draft: &mut Draft, terms: &[Term<'_>]) -> Re
 {
     let scope = term_places(alloc, draft, terms)?;
     if draft.has_objective() {
+        drop(scope);
         return Err(LineFault::Bad(RefusalKind::Name));
     }
     if !are_coefficients(terms) {
+        drop(scope);
         return Err(LineFault::Bad(RefusalKind::Limit));
     }
     if !is_rising(scope.as_slice()) {
+        drop(scope);
         return Err(LineFault::Bad(RefusalKind::Scope));
     }
-    let coefs = coefs_of(alloc, terms).map_err(|_| LineFault::NoMemory)?;
-    draft.set_objective(Linear { scope, coefs });
-    Ok(())
+    match coefs_of(alloc, terms) {
+        Ok(coefs) => {
+            draft.set_objective(Linear { scope, coefs });
+            Ok(())
+        }
+        Err(_) => {
+            drop(scope);
+            Err(LineFault::NoMemory)
+        }
+    }
 }
 
 /// Whether each coefficient is within the limit.

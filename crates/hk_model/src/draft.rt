@@ -1,6 +1,7 @@
 //! A problem that grows line by line.
 
-ghost use Rattle.std.specs.Prelude.{◌≡◌, ◌<◌, ◌↔◌, ◌∷◌, ◌++◌, [], length, All, None, Some, IsSome, IsTrue, OnOk, IfOk};
+ghost use Rattle.std.specs.Prelude.{◌≡◌, ◌<◌, ◌↔◌, ◌∷◌, ◌++◌, [], length, All, None, Some, IsSome, IsTrue, OnOk, IfOk, map};
+ghost use Rattle.indexmap.specs.IndexMap.{keys, values};
 ghost use Rattle.std.specs.List.Sorted.{IsStrictlyIncreasing};
 ghost use Rattle.hk_model.specs.Problems.{IsValid};
 ghost use Rattle.hk_model.specs.Declares.{place_of, empty_problem};
@@ -130,7 +131,7 @@ impl Draft {
     pub fn set_objective(&mut self, objective: Linear)
         ensures { self.new ≡ record self.old { objective = Some objective } }
     {
-        self.objective = Some(objective);
+        drop(self.objective.replace(objective));
     }
 
     /// The problem that is declared, where it is valid.
@@ -143,12 +144,30 @@ impl Draft {
             constraints,
             objective,
         } = self;
-        let mut names: Names = List::new(alloc);
-        let mut domains = List::new(alloc);
-        for (name, domain) in variables {
-            names.push(Bytes::from_vec(name))?;
-            domains.push(domain)?;
+        match columns(alloc, variables) {
+            Ok((names, domains)) => Ok(Problem::new(names, domains, constraints, objective)),
+            Err(failed) => {
+                drop(constraints);
+                drop(objective);
+                Err(failed)
+            }
         }
-        Ok(Problem::new(names, domains, constraints, objective))
     }
+}
+
+/// The names of variables, and their sets of values beside them.
+fn columns(
+    alloc: Global,
+    variables: IndexMap<Vec<u8>, u128>,
+) -> Result<(Names, List<u128>), AllocError>
+    ensures names { IfOk result (λ columns. columns.0 ≡ map (λ name. name.items) (keys variables)) }
+    ensures domains { IfOk result (λ columns. columns.1 ≡ values variables) }
+{
+    let mut names: Names = List::new(alloc);
+    let mut domains = List::new(alloc);
+    for (name, domain) in variables {
+        names.push(Bytes::from_vec(name))?;
+        domains.push(domain)?;
+    }
+    Ok((names, domains))
 }

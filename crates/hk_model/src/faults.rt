@@ -3,6 +3,7 @@
 ghost use Rattle.hk_model.specs.inside.Faults.{IsErrorAt};
 
 use crate::refusal::{ModelError, Refusal, RefusalKind};
+use std::alloc::AllocError;
 
 /// Why the reader stops at a line.
 #[derive(Drop)]
@@ -11,6 +12,17 @@ pub enum LineFault {
     Bad(RefusalKind),
     /// There is no memory for the line.
     NoMemory,
+}
+
+impl From<AllocError> for LineFault {
+    ghost use Rattle.std.specs.Prelude.{◌≡◌};
+    ghost use Rattle.hk_model.specs.declared.faults.LineFault.TheVariants.{NoMemory};
+
+    ghost from_gives = { λ _ fault. fault ≡ NoMemory };
+
+    fn from(_failed: AllocError) -> LineFault {
+        LineFault::NoMemory
+    }
 }
 
 /// The answer about a model whose line of this number has the fault.

@@ -27,7 +27,10 @@ pub fn read_model(alloc: Global, bytes: &[u8]) -> Result<Problem, ModelError>
         let (line, after) = split_line(rest);
         match read_line(alloc, &mut declared, line) {
             Ok(()) => {}
-            Err(fault) => return Err(error_at(number, fault)),
+            Err(fault) => {
+                drop(declared);
+                return Err(error_at(number, fault));
+            }
         }
         rest = after;
         number += 1;

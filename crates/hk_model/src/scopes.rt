@@ -22,9 +22,10 @@ pub fn places_of(alloc: Global, draft: &Draft, names: &[&[u8]]) -> Result<List<u
     let mut scope = List::new(alloc);
     for name in names {
         let Some(place) = draft.place_of(name) else {
+            drop(scope);
             return Err(LineFault::Bad(RefusalKind::Name));
         };
-        scope.push(place).map_err(|_| LineFault::NoMemory)?;
+        scope.push(place)?;
     }
     Ok(scope)
 }
@@ -37,9 +38,10 @@ pub fn term_places(alloc: Global, draft: &Draft, terms: &[Term<'_>]) -> Result<L
     let mut scope = List::new(alloc);
     for term in terms {
         let Some(place) = draft.place_of(term.name) else {
+            drop(scope);
             return Err(LineFault::Bad(RefusalKind::Name));
         };
-        scope.push(place).map_err(|_| LineFault::NoMemory)?;
+        scope.push(place)?;
     }
     Ok(scope)
 }

@@ -5,7 +5,7 @@ use Rattle.hk_model.specs.Limits.{most_constraints}
 use Rattle.hk_lines.specs.declared.posts.PostArg.{PostArg}
 use Rattle.hk_model.specs.declared.problem.Constraint.TheVariants.{User}
 use Rattle.hk_lines.specs.Posts.{Post}
-use Rattle.hk_model.specs.Postings.{IsSmallArg, AreArgsOf}
+use Rattle.hk_model.specs.Postings.{IsSmallArg}
 use Rattle.hk_lines.specs.PostShapes.{args_of}
 use Rattle.hk_model.specs.Problems.{PlainProblem}
 use Rattle.hk_lines.proofs.Membership.{now_of}
@@ -53,16 +53,13 @@ scope_len-len-requires-clause-declared c =
     let slice : c.as_slice-2.result.now ≡ c.in_ok-scope.scope = c.as_slice-2.ensures in
     subst (All (λ place. place < length c.args.draft.now.names)) (sym slice) (places_within c.args.draft.now.names (map now_of c.args.names.now) c.in_ok-scope.scope c.in_ok-scope.ensures.ok)
 
-pub returns-clause-ok : goal.returns-clause-ok
-returns-clause-ok c =
+pub returns-in_ok-add_constraint-in-Ok-clause-ok : goal.returns-in_ok-add_constraint-in-Ok-clause-ok
+returns-in_ok-add_constraint-in-Ok-clause-ok c =
     let slice : c.as_slice.result.now ≡ c.in_ok-scope.scope = c.as_slice.ensures in
     let whole : c.as_slice-2.result.now ≡ c.in_ok-scope.scope = c.as_slice-2.ensures in
-    let spec : c.in_ok-bound.bound.spec ≡ c.in-Some.spec.now = search rules in
-    let args : AreArgsOf (args_of c.args.args.now) c.in_ok-bound.bound.args = search rules in
-    let len : c.in_ok-bound.bound.len ≡ c.scope_len-len.result = search rules in
-    let added : c.add_constraint.new.self ≡ record c.args.draft.now { constraints = c.args.draft.now.constraints ++ User c.in_ok-bound.bound c.in_ok-scope.scope ∷ [] } = search rules in
-    posted (post_of c.args.name c.args.args c.args.names) c.in-Some.spec.now c.in_ok-bound.bound c.in_ok-scope.scope c.in-Some.ensures.declared c.in-Some.ensures.fit
+    let added : c.add_constraint.new.self ≡ record c.args.draft.now { constraints = c.args.draft.now.constraints ++ User c.in-Ok.bound c.in_ok-scope.scope ∷ [] } = search rules in
+    posted (post_of c.args.name c.args.args c.args.names) c.in-Some.spec.now c.in-Ok.bound c.in_ok-scope.scope c.in-Some.ensures.declared c.in-Some.ensures.fit
     (c.post_passes_limit.ensures.room c.if-post_passes_limit.false)
     (small_on c.args.names.now c.args.args.now (c.post_passes_limit.ensures.small c.if-post_passes_limit.false))
     (record { declared = c.in_ok-scope.ensures.ok; rising = subst IsStrictlyIncreasing slice (c.is_rising.ensures.0 c.if-not-is_rising.false) })
-    spec args (len ∙ c.scope_len-len.ensures ∙ ap length whole) added
+    c.in-Ok.ensures.spec c.in-Ok.ensures.args (c.in-Ok.ensures.len ∙ c.scope_len-len.ensures ∙ ap length whole) added
