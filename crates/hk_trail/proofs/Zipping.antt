@@ -1,5 +1,5 @@
 use Rattle.std.proofs.Common.{◌≡◌, ℕ, suc, List, [], ◌∷◌, length, refl, sym, ap, arith}
-use Rattle.hk_trail.specs.Places.{Places, with_place, with_num, with_bits, with_word, on_highest}
+use Rattle.hk_trail.specs.Places.{Places, with_place, with_bits, with_word, on_highest}
 use Rattle.hk_trail.specs.Pools.{zipped}
 
 -- of three lists of one length

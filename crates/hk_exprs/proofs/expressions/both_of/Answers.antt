@@ -1,4 +1,4 @@
-use Rattle.std.proofs.Common.{Err, sym, subst}
+use Rattle.std.proofs.Common.{subst}
 use Rattle.hk_terms.specs.Outcomes.{IsNumOf}
 use Rattle.hk_exprs.proofs.expressions.both_of.Goals as goal
 
