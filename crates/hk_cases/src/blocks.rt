@@ -1,6 +1,6 @@
 //! Specifications: which texts are read and how they are printed, and which are refused and why.
 
-use crate::texts::{MOST_BYTES, repeat};
+use crate::texts::{MOST_BYTES, push_lines, repeat};
 use hk_base::{Bytes, List};
 use hk_parse::{BlockFault, SpecFault, print_spec, read_spec};
 use hk_spec::Spec;
@@ -165,5 +165,55 @@ fn deep_conditions_are_told(rt: HostRuntime) {
     for (pieces, told) in rows {
         let (piece, count) = pieces.first().copied().unwrap_or(("", 0));
         assert_eq!(rt; test_refusal(rt.alloc(), pieces), told, "{count} {piece}");
+    }
+}
+
+/// Appends the first line of a specification with so many parameters after the first, and a name of 32
+/// bytes.
+fn push_header(text: &mut Bytes, more: u16) -> Result<(), AllocError> {
+    text.push_all(b"spec a_name_with_as_many_bytes_as_fit (set first")?;
+    push_lines(text, b", num p", b"", more)?;
+    text.push_all(b")\n")
+}
+
+/// Appends so many properties of each side, a test, and the steps.
+fn push_parts(text: &mut Bytes, down: u16, up: u16) -> Result<(), AllocError> {
+    push_lines(text, b"down d", b" Min 0\n", down)?;
+    push_lines(text, b"up u", b" Max 0\n", up)?;
+    text.push_all(b"test true\n")?;
+    push_lines(text, b"step d", b" v\n", down)?;
+    push_lines(text, b"step u", b" v\n", up)?;
+    text.push_all(b"end\n")
+}
+
+/// Appends a specification of these sizes: of its parameters after the first, and of the properties of
+/// each side.
+fn push_sized(text: &mut Bytes, sizes: (u16, u16, u16)) -> Result<(), AllocError> {
+    push_header(text, sizes.0)?;
+    push_parts(text, sizes.1, sizes.2)
+}
+
+/// The line and the fault for which it is refused, where it is.
+fn sized_refusal(alloc: Global, sizes: (u16, u16, u16)) -> Option<(u32, BlockFault)> {
+    let mut text = List::new(alloc);
+    let told = match push_sized(&mut text, sizes) {
+        Ok(()) => refusal(alloc, text.as_slice()),
+        Err(_) => Some((0, BlockFault::Memory)),
+    };
+    drop(text);
+    told
+}
+
+#[test]
+fn the_greatest_specifications_are_read(rt: HostRuntime) {
+    let rows = [
+        ((0, 0, 0), None),
+        ((15, 32, 32), None),
+        ((16, 32, 32), Some((1, BlockFault::Limit))),
+        ((15, 33, 32), Some((34, BlockFault::Limit))),
+        ((15, 32, 33), Some((66, BlockFault::Limit))),
+    ];
+    for (sizes, told) in rows {
+        assert_eq!(rt; sized_refusal(rt.alloc(), sizes), told, "{sizes:?}");
     }
 }

@@ -74,7 +74,7 @@ fn rise_copy_accepts(alloc: Global, values: &[u8]) -> Option<bool> {
 
 #[test]
 fn lists_that_rise_are_accepted(rt: HostRuntime) {
-    let rows: [(&[u8], bool); 7] = [
+    let rows: [(&[u8], bool); 8] = [
         (&[], true),
         (&[127], true),
         (&[0, 1], true),
@@ -82,6 +82,7 @@ fn lists_that_rise_are_accepted(rt: HostRuntime) {
         (&[1, 0], false),
         (&[3, 3], false),
         (&[2, 3], true),
+        (&[7; 256], false),
     ];
     for (values, told) in rows {
         let read = rise_accepts(rt.alloc(), values);

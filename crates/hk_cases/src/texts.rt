@@ -21,8 +21,13 @@ pub fn numbered(
     Ok(text)
 }
 
-/// Appends so many lines of a number, from 0 on, between these texts.
-fn push_lines(text: &mut Bytes, before: &[u8], after: &[u8], count: u16) -> Result<(), AllocError> {
+/// Appends so many numbers, from 0 on, each between these texts.
+pub fn push_lines(
+    text: &mut Bytes,
+    before: &[u8],
+    after: &[u8],
+    count: u16,
+) -> Result<(), AllocError> {
     for number in 0..count {
         push_line(text, before, after, number)?;
     }
