@@ -168,6 +168,34 @@ fn deep_conditions_are_told(rt: HostRuntime) {
     }
 }
 
+/// Whether this is said of a fault.
+fn is_said(alloc: Global, fault: SpecFault, text: &str) -> bool {
+    match fault.to_string(alloc) {
+        Ok(said) => said.as_str() == text,
+        Err(_) => false,
+    }
+}
+
+#[test]
+fn faults_are_said_in_words(rt: HostRuntime) {
+    let alloc = rt.alloc();
+    let told = [
+        is_said(
+            alloc,
+            SpecFault::Syntax(2),
+            "line 2 is none that may stand there",
+        ),
+        is_said(
+            alloc,
+            SpecFault::Name(3),
+            "a name of line 3 is taken or not known",
+        ),
+        is_said(alloc, SpecFault::Limit(4), "line 4 passes a limit"),
+        is_said(alloc, SpecFault::Memory, "no memory for the specification"),
+    ];
+    assert_eq!(rt; told, [true; 4]);
+}
+
 /// Appends the first line of a specification with so many parameters after the first, and a name of 32
 /// bytes.
 fn push_header(text: &mut Bytes, more: u16) -> Result<(), AllocError> {
