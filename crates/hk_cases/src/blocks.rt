@@ -109,6 +109,7 @@ fn bad_lines_are_told(rt: HostRuntime) {
             BlockFault::Syntax,
         ),
         ("spec a ()\ndown m Min -0\n", 2, BlockFault::Syntax),
+        ("spec a ()\ntest true\nstep m v\n", 3, BlockFault::Syntax),
         ("spec a ()\ntest (i < -0)\n", 2, BlockFault::Syntax),
         ("spec a ()\ndown s SomeBits {2, 1}\n", 2, BlockFault::Syntax),
         ("spec a ()\ntest (v in {2, 1})\n", 2, BlockFault::Syntax),

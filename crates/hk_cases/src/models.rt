@@ -2,7 +2,7 @@
 
 use crate::texts::{MOST_BYTES, numbered, repeat};
 use hk_base::{Bytes, List};
-use hk_model::{ModelError, Problem, RefusalKind, judge, read_model};
+use hk_model::{ModelError, Problem, Refusal, RefusalKind, judge, read_model};
 use std::alloc::{AllocError, Global};
 
 /// Two variables of which one is 1, where the first being 1 is worth 1.
@@ -215,12 +215,18 @@ fn values_are_judged(rt: HostRuntime) {
 /// A text, and the line and the kind of its refusal.
 type Refused = (&'static str, u32, RefusalKind);
 
-fn bad_models() -> [Refused; 18] {
+fn bad_models() -> [Refused; 20] {
     [
         ("", 1, RefusalKind::Unfinished),
         ("# nothing\n", 2, RefusalKind::Unfinished),
         ("hkm 1\nvar $", 2, RefusalKind::Text),
         ("hkm 2", 1, RefusalKind::Syntax),
+        ("hkm 1\nx", 2, RefusalKind::Syntax),
+        (
+            "hkm 1\nvar x in 0..1\nalldifferent (x) x",
+            3,
+            RefusalKind::Syntax,
+        ),
         ("var x in {0}", 1, RefusalKind::Syntax),
         ("hkm 1\nvar x in {}", 2, RefusalKind::Limit),
         ("hkm 1\nvar x in 0..128", 2, RefusalKind::Limit),
@@ -336,4 +342,25 @@ fn too_great_models_are_refused(rt: HostRuntime) {
     assert_eq!(rt; variables, Some((258, RefusalKind::Limit)));
     let specifications = refused_lines(alloc, b"spec s", b" ()\ntest true\nend\n", 65);
     assert_eq!(rt; specifications, Some((194, RefusalKind::Limit)));
+}
+
+/// Whether this is said of an error.
+fn is_said(alloc: Global, error: ModelError, text: &str) -> bool {
+    match error.to_string(alloc) {
+        Ok(said) => said.as_str() == text,
+        Err(_) => false,
+    }
+}
+
+#[test]
+fn errors_are_said_in_words(rt: HostRuntime) {
+    let refused = ModelError::Refused(Refusal {
+        line: 7,
+        kind: RefusalKind::Name,
+    });
+    let told = [
+        is_said(rt.alloc(), refused, "the model is refused at line 7"),
+        is_said(rt.alloc(), ModelError::Memory, "no memory for the model"),
+    ];
+    assert_eq!(rt; told, [true; 2]);
 }
