@@ -1,4 +1,6 @@
 pub mod Arguments
+pub mod Grades
+pub mod Monotone
 pub mod Names
 pub mod Runs
 pub mod Scopes

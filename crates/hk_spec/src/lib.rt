@@ -11,6 +11,7 @@ mod laws;
 mod parts;
 mod places;
 mod runs;
+mod senses;
 mod settings;
 mod specification;
 mod steps;
@@ -24,4 +25,5 @@ pub use laws::{
     up_steps_keep_the_shape,
 };
 pub use parts::{Param, ParamKind, PropDecl, StepExpr};
+pub use senses::{Place, Sense};
 pub use specification::Spec;
