@@ -11,7 +11,7 @@ pub record DomainLevels : Type 0 where
 abbrev pub AreSets : List ℕ → Type 0
 AreSets sets = All (λ set. set < 2 ^ 128) sets
 
--- the cells of a store are the sets of this many variables, now and at each open push
+-- the cells of a store are the sets of this many variables, and what each open push saved are sets
 pub record HoldsSets (count : ℕ) (levels : Levels) : Type 0 where
   pub size : length levels.content.bits ≡ count
   pub sets : AreSets levels.content.bits

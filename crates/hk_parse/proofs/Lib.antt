@@ -9,6 +9,7 @@ pub mod FittingTrees
 pub mod GoodTexts
 pub mod InitialSets
 pub mod InitialTexts
+pub mod LastSteps
 pub mod LineDecisions
 pub mod LineEffects
 pub mod LineReadings

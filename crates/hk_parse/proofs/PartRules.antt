@@ -26,10 +26,10 @@ most_from_not m n h = omega (arith, h)
 below_from_not : (m n : ℕ) → (n ≤ m → ⊥) → m < n
 below_from_not m n h = omega (arith, h)
 
-below_from : (m n : ℕ) → nat_lt m n ≡ true → m < n
+pub below_from : (m n : ℕ) → nat_lt m n ≡ true → m < n
 below_from m n h = grind (arith, nat_tests)
 
-most_from : (m n : ℕ) → nat_lt m n ≡ false → n ≤ m
+pub most_from : (m n : ℕ) → nat_lt m n ≡ false → n ≤ m
 most_from m n h = grind (arith, nat_tests)
 
 module _ (part : Part) (is : IsPart part) where

@@ -1,5 +1,5 @@
 -- Numbers with a sign or without, as texts begin with them.
-use Rattle.std.proofs.Common.{◌≡◌, ◌≢◌, ◌≤◌, ◌==◌, ℕ, ℤ, pos, zero, suc, Bool, true, false, Option, Some, List, [], ◌∷◌, ◌++◌, w64, of_z, to_z, refl, sym, ap, ◌∙◌, subst, arith}
+use Rattle.std.proofs.Common.{◌≡◌, ◌≤◌, ℕ, ℤ, pos, zero, suc, Bool, true, false, Option, Some, List, [], ◌∷◌, ◌++◌, w64, of_z, to_z, refl, sym, ap, ◌∙◌, subst, arith}
 use Rattle.std.specs.Prelude.{codes, neg_ℤ}
 use Rattle.std.proofs.lemmas.Int.{ints, to_z-of_z}
 use Rattle.std.proofs.lemmas.List.{append-nil}

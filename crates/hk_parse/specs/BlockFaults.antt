@@ -1,5 +1,5 @@
 -- What a line of a specification is found to be.
-use Rattle.std.specs.Prelude.{◌≡◌, ◌<◌, ◌≤◌, ◌⊎◌, ℕ, Bool, true, false, List}
+use Rattle.std.specs.Prelude.{◌≡◌, ℕ, Bool, true, false, List}
 use Rattle.hk_parse.specs.declared.faults.BlockFault.{BlockFault}
 use Rattle.hk_parse.specs.declared.faults.BlockFault.TheVariants.{Syntax, Name, Limit, Memory}
 use Rattle.hk_parse.specs.BlockLines.{Part, MayStand, BeginNameFault, BeginLimitFault, LineNameFault, LineLimitFault, Begins, IsGoodAfter}

@@ -35,6 +35,20 @@ part_names part = map (λ (p : Param). p.name) part.params ++ (map (λ (p : Prop
 abbrev pub due : Part → Option PropDecl
 due part = slice_get (part.down ++ part.up) (length part.down_step + length part.up_step)
 
+-- the step at the end of a side's steps, with the kind of its property, where there is a step
+abbrev pub last_step : List PropDecl → List StepExpr → Option (Kind × StepExpr)
+last_step (p ∷ properties) (e ∷ []) = Some (p.kind, e)
+last_step (p ∷ properties) (e ∷ next ∷ steps) = last_step properties (next ∷ steps)
+last_step _ _ = None
+
+-- the latest step, with the kind of its property: the last one of the up side, or else of the down side
+abbrev pub latest_step : Part → Option (Kind × StepExpr)
+latest_step part = by (last_step part.up part.up_step)
+  where
+    by : Option (Kind × StepExpr) → Option (Kind × StepExpr)
+    by (Some latest) = Some latest
+    by None = last_step part.down part.down_step
+
 -- what the test may name
 abbrev pub test_names : Part → Names
 test_names part = record { params = part.params; down = part.down; up = part.up }

@@ -7,7 +7,7 @@ ghost use Rattle.hk_text.specs.Texts.{texts_of};
 ghost use Rattle.hk_parse.specs.BlockFaults.{GoesOn, IsAdded, IsLineFault};
 ghost use Rattle.hk_parse.specs.inside.LineParts.{IsDeclared, IsPropertyFault, IsTestFault};
 ghost use Rattle.hk_parse.specs.BlockLines.{side_of};
-ghost use Rattle.hk_parse.specs.Blocks.{AwaitsProperty};
+ghost use Rattle.hk_parse.specs.Blocks.{AwaitsProperty, IsPart};
 ghost use Rattle.hk_parse.specs.LineTexts.{side_word};
 ghost use Rattle.hk_terms.specs.Outcomes.{IsFew};
 ghost use Rattle.hk_text.specs.Tokens.{IsTokenIn};
@@ -27,20 +27,24 @@ use std::alloc::Global;
 
 impl Block {
     /// Adds what the next line says: true where it is the end, which adds nothing. An error tells
-    /// why the line is bad, and leaves all as it was.
+    /// why the line is bad, and leaves all as it was. The lines before it keep the rules of a
+    /// specification.
     pub fn add(&mut self, alloc: Global, line: &[u8], tokens: &[Token]) -> Result<bool, BlockFault>
         requires { All (IsTokenIn line.now) tokens.now }
         ensures ok { IfOk result (IsAdded self.old (texts_of line.now tokens.now) self.new) }
         ensures err { IfErr result (IsLineFault self.old (texts_of line.now tokens.now)) }
         ensures unchanged { OnErr result (self.new ≡ self.old) }
+        ensures rules { IsPart self.old }
     {
+        // Asked of each line: the answer hands on the rules that the type keeps of the lines before.
+        let ends = self.awaits_end();
         if !is_only(line, tokens, b"end") {
             return match self.add_part(alloc, line, tokens) {
                 Ok(()) => Ok(false),
                 Err(fault) => Err(fault),
             };
         }
-        if !self.awaits_end() {
+        if !ends {
             return Err(BlockFault::Syntax);
         }
         Ok(true)

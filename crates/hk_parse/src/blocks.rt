@@ -2,13 +2,14 @@
 
 ghost use Rattle.std.specs.Prelude.{◌≡◌, ◌≤◌, ◌↔◌, All, IfOk, IfErr, IfSome, IsNone, OnOk, OnErr, IsTrue, None, Some, length, map};
 ghost use Rattle.std.specs.List.{list_any};
+ghost use Rattle.std.specs.Option.{option_copied};
 ghost use Rattle.std.specs.Str.{bytes_eq};
 ghost use Rattle.hk_text.specs.Lexemes.{IsWord};
 ghost use Rattle.hk_text.specs.Texts.{texts_of};
 ghost use Rattle.hk_parse.specs.BlockFaults.{BeginsWith, IsBeginFault};
 ghost use Rattle.hk_parse.specs.inside.LineParts.{IsHeaderFault};
-ghost use Rattle.hk_parse.specs.BlockLines.{Begins, IsTaken, MayStand, due, part_names, side_of, step_names, test_names, with_property, with_step};
-ghost use Rattle.hk_parse.specs.Blocks.{AwaitsProperty, FitsProperty, FitsStep, FitsTest, IsWhole};
+ghost use Rattle.hk_parse.specs.BlockLines.{Begins, IsTaken, MayStand, due, last_step, latest_step, part_names, side_of, step_names, test_names, with_property, with_step};
+ghost use Rattle.hk_parse.specs.Blocks.{AwaitsProperty, FitsProperty, FitsStep, FitsTest, IsPart, IsWhole};
 ghost use Rattle.hk_parse.specs.inside.Headers.{IsHeader, plain_param};
 ghost use Rattle.hk_parse.specs.LineTexts.{ParamText, End};
 ghost use Rattle.hk_terms.specs.Outcomes.{IsFew};
@@ -20,6 +21,7 @@ use crate::headers::{
 };
 use crate::limits::PROPERTIES;
 use hk_base::{Bytes, List};
+use hk_kinds::Kind;
 use hk_spec::{Cond, Param, PropDecl, Side, Spec, StepExpr};
 use hk_terms::Names;
 use hk_text::Token;
@@ -208,6 +210,24 @@ impl Block {
         self.up.as_slice().get(self.up_step.as_slice().len())
     }
 
+    /// The test, where it is read.
+    pub fn test(&self) -> Option<&Cond>
+        ensures { option_copied result ≡ self.now.test }
+    {
+        self.test.as_ref()
+    }
+
+    /// The latest step, with the kind of its property, where a step is read.
+    pub fn latest_step(&self) -> Option<(Kind, &StepExpr)>
+        ensures some { IfSome result (λ latest. latest_step self.now ≡ Some (latest.0, latest.1.now)) }
+        ensures none { IsNone result → latest_step self.now ≡ None }
+    {
+        if let Some(latest) = last_step(self.up.as_slice(), self.up_step.as_slice()) {
+            return Some(latest);
+        }
+        last_step(self.down.as_slice(), self.down_step.as_slice())
+    }
+
     /// What the step that is due may name.
     pub fn step_names(&self) -> Names<'_>
         ensures names { result ≡ step_names self.now }
@@ -239,9 +259,10 @@ impl Block {
         self.up_step.push(step)
     }
 
-    /// Whether the end may stand next.
+    /// Whether the end may stand next. What the lines say so far keeps the rules of a specification.
     pub fn awaits_end(&self) -> bool
-        ensures { IsTrue result ↔ MayStand self.now End }
+        ensures end { IsTrue result ↔ MayStand self.now End }
+        ensures rules { IsPart self.now }
     {
         if self.test.is_none() {
             return false;
@@ -295,4 +316,16 @@ fn has_property(properties: &[PropDecl], name: &[u8]) -> bool
     properties
         .iter()
         .any(|property| name == property.name.as_slice())
+}
+
+/// The step at the end of a side's steps, with the kind of its property, where there is a step.
+fn last_step<'a>(properties: &[PropDecl], steps: &'a [StepExpr]) -> Option<(Kind, &'a StepExpr)>
+    ensures some { IfSome result (λ last. last_step properties.now steps.now ≡ Some (last.0, last.1.now)) }
+    ensures none { IsNone result → last_step properties.now steps.now ≡ None }
+{
+    let (step, before) = steps.split_last()?;
+    match properties.get(before.len()) {
+        Some(property) => Some((property.kind, step)),
+        None => None,
+    }
 }

@@ -1,8 +1,7 @@
 //! Laws on the texts of specifications.
 
-ghost use Rattle.std.specs.Prelude.{◌≡◌, ◌≢◌, ◌⊎◌, List, ℕ, false, map, IsTrue};
-ghost use Rattle.hk_spec.specs.Scopes.{is_good_cond};
-ghost use Rattle.hk_spec.specs.Specifications.{Specification, IsSpecification, test_scope};
+ghost use Rattle.std.specs.Prelude.{◌≡◌, ◌≢◌, ◌⊎◌, List, ℕ, map};
+ghost use Rattle.hk_spec.specs.Specifications.{Specification, IsSpecification, IsWithoutBest};
 ghost use Rattle.hk_print.specs.Printed.{spec_text, spec_lines};
 ghost use Rattle.hk_print.specs.Pieces.{tokens_of};
 ghost use Rattle.hk_parse.specs.SpecTexts.{AreTextsOf, IsSpecFault, WritesSpec};
@@ -20,7 +19,7 @@ pub fn read_is_printed()
 /// bound on the cost writes this specification.
 pub fn printed_is_read()
     ensures { (s : Specification) → IsSpecification s
-        → IsTrue (is_good_cond (record (test_scope s) { best = false }) s.test)
+        → IsWithoutBest s
         → WritesSpec (spec_text s) s }
 {}
 
