@@ -134,6 +134,7 @@ module _ (specs : List Specification) (before : PlainProblem) (post : Post) wher
   faulty_whole kind.Name faulty = post_name_whole faulty
   faulty_whole kind.Limit faulty = (post_limit_whole faulty.0, λ name. faulty.1 (post_name_capped name))
   faulty_whole kind.Scope faulty = (post_scope_whole faulty.0, λ name. faulty.1 (post_name_capped name), λ limit. faulty.2 (post_limit_capped limit))
+  faulty_whole kind.Grade faulty = faulty
   faulty_whole kind.Unfinished faulty = faulty
 
   -- why the reader stops at a post with its numbers capped is why it stops at the post

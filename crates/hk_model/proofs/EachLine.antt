@@ -10,16 +10,16 @@ use Rattle.hk_text.specs.Tokens.{AreTokensOf, IsBadByte, HasTexts}
 use Rattle.hk_text.proofs.Existence.{tokens_or_bad_byte}
 use Rattle.hk_parse.specs.BlockLines.{Part}
 use Rattle.hk_model.specs.declared.refusal.RefusalKind.{RefusalKind}
-use Rattle.hk_model.specs.declared.refusal.RefusalKind.TheVariants.{Text, Later, Syntax, Name, Limit, Scope}
+use Rattle.hk_model.specs.declared.refusal.RefusalKind.TheVariants.{Text, Later, Syntax, Name, Limit, Scope, Grade}
 use Rattle.hk_model.specs.LineFaults.{IsFirstFault}
 use Rattle.hk_model.specs.Models.{Declared, IsGoodLine, good_empty, IsLaterLine}
 use Rattle.hk_lines.specs.Later.{later_words}
 use Rattle.hk_model.specs.Problems.{PlainProblem}
 use Rattle.hk_text.proofs.Deciding.{dec_test}
-use Rattle.hk_model.proofs.FaultRanks.{has_texts, later_begins, first_text, first_later, first_syntax, first_name, first_limit, first_scope}
+use Rattle.hk_model.proofs.FaultRanks.{has_texts, later_begins, first_text, first_later, first_syntax, first_name, first_limit, first_scope, first_grade}
 use Rattle.hk_model.proofs.Meanings.{Meaning, Means, none_say_nothing, dec_means}
 use Rattle.hk_model.proofs.MeantEffects.{meant_good}
-use Rattle.hk_model.proofs.MeantFaults.{NameFaultIn, LimitFaultIn, ScopeFaultIn, dec_name_in, dec_limit_in, dec_scope_in, meant_effect, header_effect}
+use Rattle.hk_model.proofs.MeantFaults.{NameFaultIn, LimitFaultIn, ScopeFaultIn, GradeFaultIn, dec_name_in, dec_limit_in, dec_scope_in, dec_grade_in, meant_effect, header_effect}
 use Rattle.hk_model.proofs.Soundness.{IsSound}
 
 -- the line is good, or it has a first fault
@@ -49,9 +49,11 @@ module _ {before : Declared} {line : List ℕ} {texts : List (List ℕ)} {m : Me
   by_faults problem started (yes named) limited unordered = found_fault Name (first_name has started means named)
   by_faults problem started (no named) (yes limited) unordered = found_fault Limit (first_limit has started means limited named)
   by_faults problem started (no named) (no limited) (yes unordered) = found_fault Scope (first_scope has started means unordered named limited)
-  by_faults problem started (no named) (no limited) (no unordered) =
-      let effect = meant_effect sound started means named limited unordered in
-      found_good effect.0 (meant_good has means effect.1)
+  by_faults problem started (no named) (no limited) (no unordered) = by_grade (dec_grade_in problem sound means named limited)
+    where
+      by_grade : Dec (GradeFaultIn m) → Judged before line
+      by_grade (yes ungraded) = found_fault Grade (first_grade has started means ungraded named limited unordered)
+      by_grade (no graded) = let effect = meant_effect sound started means named limited unordered graded in found_good effect.0 (meant_good has means effect.1)
 
   -- a line that means something is good or has a fault
   by_place : (problem : Option PlainProblem) → before.problem ≡ problem → Judged before line

@@ -1,20 +1,22 @@
 -- The first fault of a line: each kind's is built from what is known of the line, and a line has one.
 use Rattle.std.proofs.Common.{◌≡◌, ◌≢◌, ◌≤◌, ◌==◌, ℕ, suc, zero, true, List, [], length, Option, None, Some, IsSome, is_some, refl, ap, sym, ◌∙◌, subst, arith}
+use Rattle.std.specs.Prelude.{IfSome}
 use Rattle.std.proofs.lemmas.Bool.Decides.{nat_tests}
 use Rattle.std.proofs.lemmas.List.{nil_from_length, length-map}
+use Rattle.hk_parse.specs.Blocks.{IsPart}
 use Rattle.hk_text.specs.declared.tokenizer.Token.{Token}
 use Rattle.hk_text.specs.Texts.{text_of, texts_of}
 use Rattle.hk_text.specs.Tokens.{AreTokensOf, IsBadByte, HasTexts}
 use Rattle.hk_model.specs.declared.refusal.RefusalKind.{RefusalKind}
-use Rattle.hk_model.specs.declared.refusal.RefusalKind.TheVariants.{Text, Later, Syntax, Name, Limit, Scope, Unfinished}
+use Rattle.hk_model.specs.declared.refusal.RefusalKind.TheVariants.{Text, Later, Syntax, Name, Limit, Scope, Grade, Unfinished}
 use Rattle.hk_lines.specs.Later.{BeginsLater}
-use Rattle.hk_model.specs.LineFaults.{SayNothingAfter, IsNameFaultOf, IsLimitFaultOf, IsFault, fault_text, fault_later, fault_syntax, fault_name, fault_limit, fault_scope, rank, IsFirstFault}
+use Rattle.hk_model.specs.LineFaults.{SayNothingAfter, IsNameFaultOf, IsLimitFaultOf, IsScopeFaultOf, IsFault, fault_text, fault_later, fault_syntax, fault_name, fault_limit, fault_scope, fault_grade, rank, IsFirstFault}
 use Rattle.hk_model.specs.Models.{Declared, IsGoodLine, good_empty, IsBadLine, IsLaterLine}
 use Rattle.hk_model.specs.Problems.{PlainProblem}
 use Rattle.hk_text.proofs.Reading.{same_texts, bad_byte_no_texts}
 use Rattle.hk_model.proofs.Meanings.{Meaning, Means, nothing_means, say_nothing_none, later_means_nothing}
 use Rattle.hk_model.proofs.MeantEffects.{started_problem, good_texts, good_meant}
-use Rattle.hk_model.proofs.MeantFaults.{NameFaultIn, LimitFaultIn, ScopeFaultIn, name_meant, limit_meant, scope_meant, meant_name, meant_limit, meant_scope, fault_here, named_nothing, limited_nothing, unordered_nothing}
+use Rattle.hk_model.proofs.MeantFaults.{NameFaultIn, LimitFaultIn, ScopeFaultIn, GradeFaultIn, name_meant, limit_meant, scope_meant, grade_meant, meant_name, meant_limit, meant_scope, meant_grade, fault_here, named_nothing, limited_nothing, unordered_nothing, ungraded_nothing}
 
 -- the kind at a place in the order of kinds
 kind_at : ℕ → RefusalKind
@@ -24,7 +26,8 @@ kind_at (suc (suc zero)) = Syntax
 kind_at (suc (suc (suc zero))) = Name
 kind_at (suc (suc (suc (suc zero)))) = Limit
 kind_at (suc (suc (suc (suc (suc zero))))) = Scope
-kind_at (suc (suc (suc (suc (suc (suc n)))))) = Unfinished
+kind_at (suc (suc (suc (suc (suc (suc zero)))))) = Grade
+kind_at (suc (suc (suc (suc (suc (suc (suc n))))))) = Unfinished
 
 kind_at_rank : (kind : RefusalKind) → kind_at (rank kind) ≡ kind
 unfolding kind_at
@@ -34,6 +37,7 @@ kind_at_rank Syntax = refl
 kind_at_rank Name = refl
 kind_at_rank Limit = refl
 kind_at_rank Scope = refl
+kind_at_rank Grade = refl
 kind_at_rank Unfinished = refl
 
 -- a line has one first fault
@@ -95,6 +99,7 @@ first_later {before = before} {line = line} later = record { fault = fault_later
     first Name fault = omega arith
     first Limit fault = omega arith
     first Scope fault = omega arith
+    first Grade fault = omega arith
     first Unfinished fault = omega arith
 
 -- a line with tokens that say nothing which may stand there has the fault Syntax first, where it is not Later
@@ -108,6 +113,7 @@ first_syntax {before = before} {line = line} has some none no_later = record { f
     first Name fault = omega arith
     first Limit fault = omega arith
     first Scope fault = omega arith
+    first Grade fault = omega arith
     first Unfinished fault = omega arith
 
 -- the one problem that is declared
@@ -123,6 +129,7 @@ module _ {before : Declared} {line : List ℕ} {texts : List (List ℕ)} {proble
   no_early Name fault = omega arith
   no_early Limit fault = omega arith
   no_early Scope fault = omega arith
+  no_early Grade fault = omega arith
   no_early Unfinished fault = omega arith
 
   -- a fault of a name is one of the line's meaning
@@ -136,6 +143,12 @@ module _ {before : Declared} {line : List ℕ} {texts : List (List ℕ)} {proble
   limit_fault_here (fault_limit {texts = all} {problem = other} has' started' fault) =
       let here = subst (λ p. IsLimitFaultOf before p all) (same_problem started' started) fault in
       fault_here means (limit_meant started (subst (IsLimitFaultOf before problem) (same_texts has' has) here))
+
+  -- a fault of a scope is one of the line's meaning
+  scope_fault_here : IsFault before line Scope → ScopeFaultIn problem m
+  scope_fault_here (fault_scope {texts = all} {problem = other} has' started' fault) =
+      let here = subst (λ p. IsScopeFaultOf before p all) (same_problem started' started) fault in
+      fault_here means (scope_meant started (subst (IsScopeFaultOf before problem) (same_texts has' has) here))
 
   -- a line that means something with a fault of a name has the fault Name first
   pub first_name : NameFaultIn before problem m → IsFirstFault before line Name
@@ -152,6 +165,7 @@ module _ {before : Declared} {line : List ℕ} {texts : List (List ℕ)} {proble
       first Name fault' = absurd (no_name (name_fault_here fault'))
       first Limit fault' = omega arith
       first Scope fault' = omega arith
+      first Grade fault' = omega arith
       first Unfinished fault' = omega arith
 
   -- a line that means something whose scope is not in order, with no other fault, has the fault Scope first
@@ -165,26 +179,53 @@ module _ {before : Declared} {line : List ℕ} {texts : List (List ℕ)} {proble
       first Name fault' = absurd (no_name (name_fault_here fault'))
       first Limit fault' = absurd (no_limit (limit_fault_here fault'))
       first Scope fault' = omega arith
+      first Grade fault' = omega arith
+      first Unfinished fault' = omega arith
+
+  -- a line that means something whose test or step hasn't an allowed sense, with no other fault, has the fault Grade first
+  pub first_grade : GradeFaultIn m → (NameFaultIn before problem m → ⊥) → (LimitFaultIn before problem m → ⊥) → (ScopeFaultIn problem m → ⊥) → IsFirstFault before line Grade
+  first_grade fault no_name no_limit no_scope = record { fault = fault_grade has started (meant_grade means fault); first = first }
+    where
+      first : (other : RefusalKind) → IsFault before line other → rank Grade ≤ rank other
+      first Text fault' = absurd (let early = no_early Text fault' in omega (arith, early))
+      first Later fault' = absurd (let early = no_early Later fault' in omega (arith, early))
+      first Syntax fault' = absurd (let early = no_early Syntax fault' in omega (arith, early))
+      first Name fault' = absurd (no_name (name_fault_here fault'))
+      first Limit fault' = absurd (no_limit (limit_fault_here fault'))
+      first Scope fault' = absurd (no_scope (scope_fault_here fault'))
+      first Grade fault' = omega arith
       first Unfinished fault' = omega arith
 
 -- a line that does not fall into texts is bad
 pub bad_without_texts : {before : Declared} {line : List ℕ} → ((texts : List (List ℕ)) → HasTexts line texts → ⊥) → IsBadLine before line
 bad_without_texts none after good = let found = good_texts good in none found.0 found.1
 
--- a line with a fault is bad
-pub fault_bad : {before : Declared} {line : List ℕ} {kind : RefusalKind} → IsFault before line kind → IsBadLine before line
-fault_bad (fault_text bad) = bad_without_texts (λ texts has. bad_byte_no_texts bad has)
-fault_bad (fault_later later) = λ after good. later_means_nothing later.outside later.later (good_meant later.has (λ none. cc) good).means
-fault_bad (fault_syntax has some none) = λ after good. say_nothing_none none (good_meant has some good).means
-fault_bad (fault_name has started fault) = λ after good.
+-- so is a line with a bad byte
+pub text_bad : {before : Declared} {line : List ℕ} {column byte : ℕ} → IsBadByte line column byte → IsBadLine before line
+text_bad bad = bad_without_texts (λ texts has. bad_byte_no_texts bad has)
+
+-- where no specification is open, it keeps its rules
+pub none_open : (before : Declared) → before.block ≡ None → IfSome before.block IsPart
+none_open before out = subst (λ block. IfSome block IsPart) (sym out) tt
+
+-- a line with a fault is bad, where the open specification keeps its rules
+pub fault_bad : {before : Declared} {line : List ℕ} {kind : RefusalKind} → IfSome before.block IsPart → IsFault before line kind → IsBadLine before line
+fault_bad parts (fault_text bad) = text_bad bad
+fault_bad parts (fault_later later) = λ after good. later_means_nothing later.outside later.later (good_meant later.has (λ none. cc) good).means
+fault_bad parts (fault_syntax has some none) = λ after good. say_nothing_none none (good_meant has some good).means
+fault_bad parts (fault_name has started fault) = λ after good.
     let found = name_meant started fault in
     let meant = good_meant has (means_some found.means) good in
     named_nothing started (fault_here meant.means found) meant.effect
-fault_bad (fault_limit has started fault) = λ after good.
+fault_bad parts (fault_limit has started fault) = λ after good.
     let found = limit_meant started fault in
     let meant = good_meant has (means_some found.means) good in
     limited_nothing started (fault_here meant.means found) meant.effect
-fault_bad (fault_scope has started fault) = λ after good.
+fault_bad parts (fault_scope has started fault) = λ after good.
     let found = scope_meant started fault in
     let meant = good_meant has (means_some found.means) good in
     unordered_nothing started (fault_here meant.means found) meant.effect
+fault_bad parts (fault_grade has started fault) = λ after good.
+    let found = grade_meant fault in
+    let meant = good_meant has (means_some found.means) good in
+    ungraded_nothing parts meant.means (fault_here meant.means found) meant.effect

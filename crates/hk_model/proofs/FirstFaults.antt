@@ -4,7 +4,7 @@ use Rattle.std.proofs.Common.{◌≡◌, ◌≢◌, ℕ, List, [], Option, None,
 use Rattle.hk_model.specs.declared.faults.LineFault.{LineFault}
 use Rattle.hk_model.specs.declared.faults.LineFault.TheVariants.{Bad, NoMemory}
 use Rattle.hk_model.specs.declared.refusal.RefusalKind.{RefusalKind}
-use Rattle.hk_model.specs.declared.refusal.RefusalKind.TheVariants.{Text, Later, Syntax, Name, Limit, Scope, Unfinished}
+use Rattle.hk_model.specs.declared.refusal.RefusalKind.TheVariants.{Text, Later, Syntax, Name, Limit, Scope, Grade, Unfinished}
 use Rattle.hk_lines.specs.declared.shapes.Shape.{Shape}
 use Rattle.hk_lines.specs.Plain.{statement_of}
 use Rattle.hk_model.specs.inside.Faults.{IsFaultyStatement, IsStatementFault, IsLineFault}
@@ -15,7 +15,7 @@ use Rattle.hk_lines.specs.Shapes.{capped_statement, IsShapeOf}
 use Rattle.hk_lines.specs.Statements.{Statement, Says}
 use Rattle.hk_model.specs.Declares.{MayStand, Declares}
 use Rattle.hk_model.proofs.CappedStatements.{name_whole, name_capped, limit_whole, limit_capped, scope_whole, stand_capped, declares_whole}
-use Rattle.hk_model.proofs.FaultRanks.{first_syntax, first_name, first_limit, first_scope, fault_bad}
+use Rattle.hk_model.proofs.FaultRanks.{first_syntax, first_name, first_limit, first_scope, none_open, fault_bad}
 use Rattle.hk_lines.proofs.FirstWords.{statement_no_post, later_says_nothing}
 use Rattle.hk_model.proofs.FirstWords.{statement_no_opening}
 use Rattle.hk_text.proofs.Reading.{same_texts}
@@ -34,6 +34,7 @@ faulty_whole None s Limit fault = fault
 faulty_whole (Some before) s Limit (fault, no_name) = (limit_whole before s fault, λ named. no_name (name_capped before s named))
 faulty_whole None s Scope fault = fault
 faulty_whole (Some before) s Scope (fault, no_name, no_limit) = (scope_whole before s fault, λ named. no_name (name_capped before s named), λ limited. no_limit (limit_capped before s limited))
+faulty_whole before s Grade fault = fault
 faulty_whole before s Unfinished fault = fault
 
 -- texts that say a statement are some
@@ -65,6 +66,7 @@ module _ {before : Declared} {line : List ℕ} {texts : List (List ℕ)} {s : St
   line_fault None started Scope fault = absurd fault
   line_fault (Some problem) started Scope (fault, no_name, no_limit) =
       first_scope has started (means_statement out says (subst (λ p. MayStand p s) (sym started) (unordered_stands s fault))) fault no_name no_limit
+  line_fault problem started Grade fault = absurd fault
   line_fault problem started Unfinished fault = absurd fault
 
 module _ {line : List ℕ} {texts : List (List ℕ)} (has : HasTexts line texts) (shape : Shape) (shaped : IsShapeOf texts shape) (before : Declared) (out : before.block ≡ None) where
@@ -73,7 +75,7 @@ module _ {line : List ℕ} {texts : List (List ℕ)} (has : HasTexts line texts)
   first_of_statement (Bad kind) fault =
       let whole = faulty_whole before.problem shaped.0 kind (subst (λ t. IsFaultyStatement before.problem t kind) shaped.2 fault) in
       let first = line_fault has out shaped.1 before.problem refl kind whole in
-      (fault_bad first.fault, first)
+      (fault_bad (none_open before out) first.fault, first)
   first_of_statement NoMemory nothing = tt
 
   -- what is declared after a statement of a line is declared after the line

@@ -1,6 +1,5 @@
 -- Good lines, one after the other: what they declare is determined and sound.
 use Rattle.std.proofs.Common.{◌≡◌, ℕ, List, [], ◌∷◌, ◌++◌, refl, sym, subst}
-use Rattle.hk_text.specs.Lines.{lines}
 use Rattle.hk_model.specs.Models.{Declared, nothing_declared, IsGoodLine, AreGoodLines, no_line, then_line, Spells}
 use Rattle.hk_model.specs.Problems.{PlainProblem, IsValid}
 use Rattle.hk_model.proofs.MeantEffects.{good_line_one}

@@ -9,6 +9,7 @@ pub mod FirstFaults
 pub mod FirstWords
 pub mod Fitting
 pub mod GoodLines
+pub mod GradedLines
 pub mod InsideLines
 pub mod Meanings
 pub mod MeantEffects

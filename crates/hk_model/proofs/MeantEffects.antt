@@ -4,7 +4,7 @@ use Rattle.std.proofs.Common.{◌≡◌, ◌≢◌, ℕ, List, [], ◌∷◌, �
 use Rattle.hk_parse.specs.BlockLines.{Part, IsGoodAfter, whole_spec}
 use Rattle.hk_parse.specs.LineTexts.{ParamText, LineText, End}
 use Rattle.hk_spec.specs.declared.expressions.Cond.{Cond}
-use Rattle.hk_model.specs.Models.{Declared, Opens, IsGoodLine, good_empty, good_statement, good_post, good_opening, good_inside, good_end}
+use Rattle.hk_model.specs.Models.{Declared, Opens, IsGoodLine, good_empty, good_statement, good_post, good_opening, good_inside, good_end, wrong_latest}
 use Rattle.hk_lines.specs.Posts.{Post}
 use Rattle.hk_model.specs.Postings.{AddsPost}
 use Rattle.hk_model.specs.Problems.{PlainProblem}
@@ -23,7 +23,7 @@ pub data Effect (before : Declared) : Meaning → Declared → Type 0 where
   effect_statement : {statement : Statement} {problem : Option PlainProblem} → Declares before.problem statement problem → Effect before (Stating statement) (record before { problem = problem })
   effect_post : {post : Post} {problem after : PlainProblem} → before.problem ≡ Some problem → AddsPost before.specs post problem after → Effect before (Posting post) (record before { problem = Some after })
   effect_opening : {name : List ℕ} {params : List ParamText} {part : Part} → Opens before.specs name params part → Effect before (Opening name params) (record before { block = Some part })
-  effect_inside : {part after : Part} {text : LineText} → IsGoodAfter part text after → Effect before (Inside part text) (record before { block = Some after })
+  effect_inside : {part after : Part} {text : LineText} → IsGoodAfter part text after → wrong_latest after ≡ None → Effect before (Inside part text) (record before { block = Some after })
   effect_end : {part : Part} {test : Cond} → part.test ≡ Some test → Effect before (Inside part End) (record before { specs = before.specs ++ whole_spec part test ∷ []; block = None })
 
 -- what is declared after the header
@@ -36,7 +36,7 @@ pub meant_good : {before after : Declared} {line : List ℕ} {texts : List (List
 meant_good has (means_statement out says stands) (effect_statement declares) = good_statement has out says declares
 meant_good has (means_post out some says) (effect_post started adds) = good_post has out says started adds
 meant_good {before = before} has (means_opening out some says) (effect_opening opens) = good_opening has out says (started_problem before.problem some).1 opens
-meant_good has (means_inside is says stands) (effect_inside good) = good_inside has is says good
+meant_good has (means_inside is says stands) (effect_inside good allowed) = good_inside has is says good allowed
 meant_good has (means_inside is says stands) (effect_end tested) = good_end has is says stands tested
 
 -- the texts mean something, and this is what is declared after it
@@ -57,9 +57,9 @@ good_meant {before = before} has some (good_post {post = p} {after = after} has'
 good_meant {before = before} has some (good_opening {name = name} {params = params} {part = part} has' out says started opens) =
     subst (λ texts. Meant before texts (record before { block = Some part })) (same_texts has' has)
     (record { meaning = Opening name params; means = means_opening out (ap is_some started) says; effect = effect_opening opens })
-good_meant {before = before} has some (good_inside {part = part} {after = after} {text = text} has' is says good) =
+good_meant {before = before} has some (good_inside {part = part} {after = after} {text = text} has' is says good allowed) =
     subst (λ texts. Meant before texts (record before { block = Some after })) (same_texts has' has)
-    (record { meaning = Inside part text; means = means_inside is says good.stands; effect = effect_inside good })
+    (record { meaning = Inside part text; means = means_inside is says good.stands; effect = effect_inside good allowed })
 good_meant {before = before} has some (good_end {part = part} {test = test} has' is says stands tested) =
     subst (λ texts. Meant before texts (record before { specs = before.specs ++ whole_spec part test ∷ []; block = None })) (same_texts has' has)
     (record { meaning = Inside part End; means = means_inside is says stands; effect = effect_end tested })
@@ -74,7 +74,7 @@ good_nothing has (good_empty has') = refl
 good_nothing {before = before} has (good_statement has' out says declares) = absurd (no_meaning before has has' (means_statement out says (effect_stands declares)))
 good_nothing {before = before} has (good_post has' out says started adds) = absurd (no_meaning before has has' (means_post out (ap is_some started) says))
 good_nothing {before = before} has (good_opening has' out says started opens) = absurd (no_meaning before has has' (means_opening out (ap is_some started) says))
-good_nothing {before = before} has (good_inside has' is says good) = absurd (no_meaning before has has' (means_inside is says good.stands))
+good_nothing {before = before} has (good_inside has' is says good allowed) = absurd (no_meaning before has has' (means_inside is says good.stands))
 good_nothing {before = before} has (good_end has' is says stands tested) = absurd (no_meaning before has has' (means_inside is says stands))
 
 -- a good line has texts
@@ -83,11 +83,11 @@ good_texts (good_empty has) = ([], has)
 good_texts (good_statement {texts = texts} has out says declares) = (texts, has)
 good_texts (good_post {texts = texts} has out says started adds) = (texts, has)
 good_texts (good_opening {texts = texts} has out says started opens) = (texts, has)
-good_texts (good_inside {texts = texts} has is says good) = (texts, has)
+good_texts (good_inside {texts = texts} has is says good allowed) = (texts, has)
 good_texts (good_end {texts = texts} has is says stands tested) = (texts, has)
 
 -- the end of a specification adds nothing to it
-no_more : {part after : Part} → IsGoodAfter part End after → ⊥
+pub no_more : {part after : Part} → IsGoodAfter part End after → ⊥
 no_more good = elim good.adds [ ]
 
 -- a meaning has one effect
@@ -100,9 +100,9 @@ effect_one {before = before} sound means (effect_post {post = post} {after = aft
     same_problem : {p q : PlainProblem} → before.problem ≡ Some p → before.problem ≡ Some q → p ≡ q
     same_problem x y = cc
 effect_one {before = before} sound means (effect_opening x) (effect_opening y) = ap (λ part. record before { block = Some part }) (begins_one x.begins y.begins)
-effect_one {before = before} sound (means_inside is says stands) (effect_inside x) (effect_inside y) = ap (λ part. record before { block = Some part }) (good_after_one (open_part sound is) x y)
-effect_one sound means (effect_inside x) (effect_end tested) = absurd (no_more x)
-effect_one sound means (effect_end tested) (effect_inside y) = absurd (no_more y)
+effect_one {before = before} sound (means_inside is says stands) (effect_inside x _) (effect_inside y _) = ap (λ part. record before { block = Some part }) (good_after_one (open_part sound is) x y)
+effect_one sound means (effect_inside x _) (effect_end tested) = absurd (no_more x)
+effect_one sound means (effect_end tested) (effect_inside y _) = absurd (no_more y)
 effect_one {before = before} sound means (effect_end {part = part} {test = test} tested) (effect_end {test = test'} tested') =
     let same : test ≡ test' = cc in
     ap (λ c. record before { specs = before.specs ++ whole_spec part c ∷ []; block = None }) same

@@ -17,7 +17,7 @@ use Rattle.hk_model.specs.inside.Faults.{IsLineFault, as_begin_fault}
 use Rattle.hk_model.specs.Models.{Declared, IsGoodLine, good_opening, IsLaterLine}
 use Rattle.hk_model.specs.Postings.{spec_of}
 use Rattle.hk_lines.specs.Statements.{Statement, Says, says_header, says_variable, says_distinct, says_total, says_objective}
-use Rattle.hk_model.proofs.FaultRanks.{first_syntax, first_name, first_limit, fault_bad}
+use Rattle.hk_model.proofs.FaultRanks.{first_syntax, first_name, first_limit, none_open, fault_bad}
 use Rattle.hk_lines.proofs.FirstWords.{later_apart}
 use Rattle.hk_text.proofs.Reading.{same_texts}
 use Rattle.hk_text.proofs.TokenTexts.{apart, apart_none}
@@ -61,14 +61,14 @@ module _ (before : Declared) {line : List ℕ} {texts rest : List (List ℕ)} (h
   pub opening_syntax : ((name : List ℕ) (params : List ParamText) → IsSome before.problem → SaysLine texts (Begin name params) → ⊥) → IsLineFault before line (Bad Syntax)
   opening_syntax none =
       let first = first_syntax has (λ nothing. apart_none nothing begins) (none_say_nothing (λ m means. no_opening none means)) spec_not_later in
-      (fault_bad first.fault, first)
+      (fault_bad (none_open before out) first.fault, first)
 
   module _ {taken : Bool} (started : IsSome before.problem) (tells : TellsTaken before.specs texts taken) where
     -- a first line with a taken name
     opening_name : {name : List ℕ} {params : List ParamText} → SaysLine texts (Begin name params) → IsSome (spec_of before.specs name) ⊎ BeginNameFault params → IsLineFault before line (Bad Name)
     opening_name says fault =
         let first = first_name has (started_problem before.problem started).1 (means_opening out started says) fault in
-        (fault_bad first.fault, first)
+        (fault_bad (none_open before out) first.fault, first)
 
     -- no name is taken
     no_name : {name : List ℕ} {params : List ParamText} → SaysLine texts (Begin name params) → taken ≡ false → (BeginNameFault params → ⊥) → IsSome (spec_of before.specs name) ⊎ BeginNameFault params → ⊥
@@ -79,7 +79,7 @@ module _ (before : Declared) {line : List ℕ} {texts rest : List (List ℕ)} (h
     opening_limit : {name : List ℕ} {params : List ParamText} → SaysLine texts (Begin name params) → taken ≡ false → (BeginNameFault params → ⊥) → (most_specifications ≤ length before.specs) ⊎ BeginLimitFault name params → IsLineFault before line (Bad Limit)
     opening_limit says free named fault =
         let first = first_limit has (started_problem before.problem started).1 (means_opening out started says) fault (no_name says free named) in
-        (fault_bad first.fault, first)
+        (fault_bad (none_open before out) first.fault, first)
 
     -- what is good but for its name, which is another specification's
     pub begun_taken : {part : Part} → BeginsWith texts part → IsTrue taken → IsLineFault before line (Bad Name)

@@ -106,7 +106,7 @@ module _ (bytes : List ℕ) where
       step : ((after : Declared) → IsGoodLine before line after → Outcome bytes) → Judged before line → Outcome bytes
       step later (found_good after good) = later after good
       step later (found_fault kind fault) =
-          let first : IsFirstBadLine bytes (length front + 1) line before = record { front = front; rest = rest; parts = parts; counted = refl; good = goods; bad = fault_bad fault.fault } in
+          let first : IsFirstBadLine bytes (length front + 1) line before = record { front = front; rest = rest; parts = parts; counted = refl; good = goods; bad = fault_bad (good_lines_sound goods).block fault.fault } in
           inr (length front + 1, kind, refused_line first fault)
 
 -- bytes spell a problem, or have a refusal

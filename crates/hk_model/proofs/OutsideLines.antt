@@ -10,7 +10,7 @@ use Rattle.hk_lines.specs.declared.posts.PostShape.{PostShape}
 use Rattle.hk_model.specs.declared.refusal.RefusalKind.{RefusalKind}
 use Rattle.hk_lines.specs.declared.shapes.Shape.{Shape}
 use Rattle.hk_lines.specs.Plain.{statement_of}
-use Rattle.hk_model.specs.declared.refusal.RefusalKind.TheVariants.{Text, Later, Syntax, Name, Limit, Scope, Unfinished}
+use Rattle.hk_model.specs.declared.refusal.RefusalKind.TheVariants.{Text, Later, Syntax, Name, Limit, Scope, Grade, Unfinished}
 use Rattle.hk_model.specs.inside.Faults.{IsLineFault, Posts, IsPostFaultAfter}
 use Rattle.hk_model.specs.LineFaults.{IsFirstFault}
 use Rattle.hk_model.specs.Models.{Declared, IsGoodLine, good_post, IsLaterLine}
@@ -23,7 +23,7 @@ use Rattle.hk_lines.specs.Shapes.{IsShapeOf, SayNothing}
 use Rattle.hk_lines.specs.Statements.{Statement, Says, says_header, says_variable, says_distinct, says_total, says_objective}
 use Rattle.hk_model.specs.Declares.{Declares}
 use Rattle.hk_model.proofs.CappedPosts.{post_fault_whole, adds_post_whole}
-use Rattle.hk_model.proofs.FaultRanks.{first_syntax, first_name, first_limit, first_scope, fault_bad}
+use Rattle.hk_model.proofs.FaultRanks.{first_syntax, first_name, first_limit, first_scope, none_open, fault_bad}
 use Rattle.hk_model.proofs.FirstFaults.{effect_of_statement}
 use Rattle.hk_lines.proofs.FirstWords.{later_apart}
 use Rattle.hk_text.proofs.Reading.{same_texts}
@@ -42,7 +42,7 @@ module _ (before : Declared) {line : List ℕ} {texts : List (List ℕ)} (has : 
   pub silent_line : SayNothing texts → ((rest : List (List ℕ)) → texts ≡ codes "post" ∷ rest → ⊥) → ((rest : List (List ℕ)) → texts ≡ codes "spec" ∷ rest → ⊥) → (IsLaterLine before line → ⊥) → IsLineFault before line (Bad Syntax)
   silent_line silent no_post no_spec no_later =
       let first = first_syntax has some (none_say_nothing (λ m means. no_meaning silent no_post no_spec means)) no_later in
-      (fault_bad first.fault, first)
+      (fault_bad (none_open before out) first.fault, first)
 
 -- what is declared after the statement of a line is declared after the line
 pub effect_after : (before : Declared) {line : List ℕ} {texts : List (List ℕ)} → HasTexts line texts → before.block ≡ None → (shape : Shape) → IsShapeOf texts shape → (after : Declared)
@@ -73,7 +73,7 @@ module _ (before : Declared) {line : List ℕ} {rest : List (List ℕ)} (has : H
   pub post_syntax : ((post : Post) → IsSome before.problem → SaysPost (codes "post" ∷ rest) post → ⊥) → IsLineFault before line (Bad Syntax)
   post_syntax none =
       let first = first_syntax has (λ nothing. apart_none nothing refl) (none_say_nothing (λ m means. no_post_meant none means)) post_not_later in
-      (fault_bad first.fault, first)
+      (fault_bad (none_open before out) first.fault, first)
 
   module _ {problem : PlainProblem} (started : before.problem ≡ Some problem) where
     -- the first fault of a post is that of the line that says it
@@ -84,6 +84,7 @@ module _ (before : Declared) {line : List ℕ} {rest : List (List ℕ)} (has : H
     post_fault says Name fault = first_name has started (means_post out (ap is_some started) says) fault
     post_fault says Limit (fault, no_name) = first_limit has started (means_post out (ap is_some started) says) fault no_name
     post_fault says Scope (fault, no_name, no_limit) = first_scope has started (means_post out (ap is_some started) says) fault no_name no_limit
+    post_fault says Grade fault = absurd fault
     post_fault says Unfinished fault = absurd fault
 
   module _ (shape : PostShape) (shaped : IsPostShapeOf (codes "post" ∷ rest) shape) where
@@ -91,7 +92,7 @@ module _ (before : Declared) {line : List ℕ} {rest : List (List ℕ)} (has : H
     first_after : {problem : PlainProblem} → before.problem ≡ Some problem → (fault : LineFault) → IsPostFault before.specs problem (plain_post shape) fault → IsLineFault before line fault
     first_after {problem = problem} started (Bad kind) fault =
         let first = post_fault started shaped.1 kind (post_fault_whole before.specs problem shaped.0 (Bad kind) (subst (λ p. IsPostFault before.specs problem p (Bad kind)) shaped.2 fault)) in
-        (fault_bad first.fault, first)
+        (fault_bad (none_open before out) first.fault, first)
     first_after started NoMemory nothing = tt
 
     -- where the reader stops at the post of a line, it stops at the line

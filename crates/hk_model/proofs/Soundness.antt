@@ -1,13 +1,13 @@
 -- What a good line declares is sound where what was declared before it is.
 use Rattle.std.proofs.Common.{◌≡◌, ℕ, ◌<◌, Bool, true, false, cond, List, [], ◌∷◌, length, find, Option, None, Some, IsSome, is_some, refl, sym, ap, subst, ◌∙◌, true≢false, arith}
-use Rattle.std.specs.Prelude.{All, IfSome, IsTrue}
+use Rattle.std.specs.Prelude.{All, IfSome}
 use Rattle.std.proofs.lemmas.List.Elements.{All-nil, All-head, All-tail, All-push, All-weaker}
 use Rattle.hk_kinds.specs.Limits.{IsWithinLimit}
 use Rattle.hk_parse.specs.BlockLines.{Part, whole_spec}
 use Rattle.hk_parse.specs.Blocks.{IsPart}
 use Rattle.hk_spec.specs.Arguments.{IsCoefficient, IsArgument, is_number, is_set, is_list, AreArguments, no_arguments, more_arguments}
-use Rattle.hk_spec.specs.Scopes.{is_good_cond}
-use Rattle.hk_spec.specs.Specifications.{Specification, IsSpecification, param_kinds, test_scope}
+use Rattle.hk_spec.specs.Grades.{IsGraded}
+use Rattle.hk_spec.specs.Specifications.{Specification, IsSpecification, IsWithoutBest, param_kinds}
 use Rattle.hk_spec.specs.declared.arguments.Arg.{Arg}
 use Rattle.hk_spec.specs.declared.arguments.Arg.TheVariants as argument
 use Rattle.hk_spec.specs.declared.parts.ParamKind.{ParamKind}
@@ -18,24 +18,27 @@ use Rattle.hk_lines.specs.Posts.{ArgText, Number, Set, Numbers, Post, SaysPost}
 use Rattle.hk_model.specs.Postings.{FitsKind, FitKinds, IsSmallArg, IsArgOf, AreArgsOf, AddsPost}
 use Rattle.hk_model.specs.Problems.{PlainProblem, IsWithin, IsScope, IsPosted, IsValid}
 use Rattle.hk_parse.proofs.PartRules.{begins_valid, good_after_valid, whole_valid, whole_no_best}
+use Rattle.hk_model.proofs.GradedLines.{IsGradedPart, begins_graded, whole_graded, good_after_graded}
 use Rattle.hk_model.proofs.SumSizes.{scope_short}
 use Rattle.hk_model.proofs.Validity.{IsValidSoFar, as_many, named_scope, constraint_valid, statement_valid}
 
--- a declared specification is valid, and its test doesn't use the bound on the cost
+-- a declared specification is valid, its test doesn't use the bound on the cost, and it is graded
 pub record IsDeclared (s : Specification) : Type 0 where
   pub rules : IsSpecification s
-  pub no_best : IsTrue (is_good_cond (record (test_scope s) { best = false }) s.test)
+  pub no_best : IsWithoutBest s
+  pub graded : IsGraded s
 
--- what is declared so far is valid, and specifications come after the header
+-- what is declared so far is valid, an open specification is graded, and specifications come after the header
 pub record IsSound (declared : Declared) : Type 0 where
   pub problem : IsValidSoFar declared.problem
   pub specs : All IsDeclared declared.specs
   pub block : IfSome declared.block IsPart
+  pub graded : IfSome declared.block IsGradedPart
   pub started : IsSome declared.block → IsSome declared.problem
 
 -- before the first line
 pub nothing_sound : IsSound nothing_declared
-nothing_sound = record { problem = tt; specs = All-nil IsDeclared; block = tt; started = λ some. absurd (true≢false (sym some)) }
+nothing_sound = record { problem = tt; specs = All-nil IsDeclared; block = tt; graded = tt; started = λ some. absurd (true≢false (sym some)) }
 
 -- an argument of the form that a kind asks, within its limits, is one of that kind
 argument_valid : (count : ℕ) (kind : ParamKind) (text : ArgText) (arg : Arg) → FitsKind kind text → IsSmallArg count text → IsArgOf text arg → IsArgument count kind arg
@@ -101,6 +104,7 @@ post_valid {specs = specs} {post = post} {before = before} says adds declared va
       };
       len = refl;
       no_best = spec.no_best;
+      graded = spec.graded;
     }
 
 -- no specification is open
@@ -108,32 +112,43 @@ not_open : {block : Option Part} → block ≡ None → IsSome block → ⊥
 not_open out some = true≢false (sym some ∙ ap is_some out)
 
 -- what the open specification has
-part_of : {block : Option Part} {part : Part} → block ≡ Some part → IfSome block IsPart → IsPart part
+pub part_of : {block : Option Part} {part : Part} → block ≡ Some part → IfSome block IsPart → IsPart part
 part_of is all = subst (λ given. IfSome given IsPart) is all
 
 -- what an open specification says so far is as in a specification
 pub open_part : {declared : Declared} {part : Part} → IsSound declared → declared.block ≡ Some part → IsPart part
 open_part sound is = part_of is sound.block
 
+-- and it is graded so far
+open_graded : {declared : Declared} {part : Part} → IsSound declared → declared.block ≡ Some part → IsGradedPart part
+open_graded sound is = subst (λ given. IfSome given IsGradedPart) is sound.graded
+
 -- a good line keeps what is declared sound
 pub good_line_sound : {before after : Declared} {line : List ℕ} → IsSound before → IsGoodLine before line after → IsSound after
 good_line_sound sound (good_empty has) = sound
 good_line_sound sound (good_statement has out says declares) =
-    record { problem = statement_valid says declares sound.problem; specs = sound.specs; block = sound.block; started = λ some. absurd (not_open out some) }
+    record { problem = statement_valid says declares sound.problem; specs = sound.specs; block = sound.block; graded = sound.graded; started = λ some. absurd (not_open out some) }
 good_line_sound sound (good_post has out says started adds) = record {
   problem = post_valid says adds sound.specs (subst IsValidSoFar started sound.problem);
   specs = sound.specs;
   block = sound.block;
+  graded = sound.graded;
   started = λ some. refl;
 }
 good_line_sound sound (good_opening has out says started opens) =
-    record { problem = sound.problem; specs = sound.specs; block = begins_valid says.written opens.begins; started = λ some. ap is_some started }
-good_line_sound sound (good_inside has is says good) =
-    record { problem = sound.problem; specs = sound.specs; block = good_after_valid (open_part sound is) says.written good; started = λ some. sound.started (ap is_some is) }
+    record { problem = sound.problem; specs = sound.specs; block = begins_valid says.written opens.begins; graded = begins_graded opens.begins; started = λ some. ap is_some started }
+good_line_sound sound (good_inside has is says good allowed) = record {
+  problem = sound.problem;
+  specs = sound.specs;
+  block = good_after_valid (open_part sound is) says.written good;
+  graded = good_after_graded (open_part sound is) good allowed (open_graded sound is);
+  started = λ some. sound.started (ap is_some is);
+}
 good_line_sound {before = before} sound (good_end {part = part} {test = test} has is says stands tested) = record {
   problem = sound.problem;
   specs = All-push IsDeclared before.specs (whole_spec part test) sound.specs
-      (record { rules = whole_valid (open_part sound is) tested stands.1; no_best = whole_no_best (open_part sound is) tested });
+      (record { rules = whole_valid (open_part sound is) tested stands.1; no_best = whole_no_best (open_part sound is) tested; graded = whole_graded tested (open_graded sound is) });
   block = tt;
+  graded = tt;
   started = λ some. absurd (true≢false (sym some));
 }

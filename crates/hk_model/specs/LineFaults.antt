@@ -5,10 +5,10 @@ use Rattle.hk_text.specs.Tokens.{IsBadByte, HasTexts}
 use Rattle.hk_model.specs.Limits.{most_variables, value_count, most_name_bytes, most_constraints, greatest_coefficient, most_specifications}
 use Rattle.hk_base.specs.Limits.{number_limit}
 use Rattle.hk_model.specs.declared.refusal.RefusalKind.{RefusalKind}
-use Rattle.hk_model.specs.declared.refusal.RefusalKind.TheVariants.{Text, Later, Syntax, Name, Limit, Scope, Unfinished}
-use Rattle.hk_parse.specs.BlockLines.{Part, MayStand as MayStandIn, BeginNameFault, BeginLimitFault, LineNameFault, LineLimitFault}
+use Rattle.hk_model.specs.declared.refusal.RefusalKind.TheVariants.{Text, Later, Syntax, Name, Limit, Scope, Grade, Unfinished}
+use Rattle.hk_parse.specs.BlockLines.{Part, MayStand as MayStandIn, BeginNameFault, BeginLimitFault, LineNameFault, LineLimitFault, IsGoodAfter}
 use Rattle.hk_parse.specs.LineTexts.{ParamText, LineText, Begin, SaysLine}
-use Rattle.hk_model.specs.Models.{Declared, IsLaterLine}
+use Rattle.hk_model.specs.Models.{Declared, IsLaterLine, wrong_latest}
 use Rattle.hk_lines.specs.Posts.{Post, SaysPost}
 use Rattle.hk_model.specs.Postings.{PostNameFault, PostLimitFault, PostScopeFault, spec_of}
 use Rattle.hk_lines.specs.Phrases.{Values, Term}
@@ -85,6 +85,16 @@ pub data IsScopeFaultOf (before : Declared) (problem : PlainProblem) (texts : Li
   scope_of_statement : {statement : Statement} → before.block ≡ None → Says texts statement → IsScopeFault problem statement → IsScopeFaultOf before problem texts
   scope_of_post : {post : Post} → before.block ≡ None → SaysPost texts post → PostScopeFault problem post → IsScopeFaultOf before problem texts
 
+-- the test or the step that a line of a specification gives hasn't an allowed sense
+pub record IsGradeFaultOf (before : Declared) (texts : List (List ℕ)) : Type 0 where
+  pub part : Part
+  pub is_open : before.block ≡ Some part
+  pub text : LineText
+  pub says : SaysLine texts text
+  pub after : Part
+  pub good : IsGoodAfter part text after
+  pub wrong : IsSome (wrong_latest after)
+
 -- a line has a fault of a kind
 pub data IsFault (before : Declared) (line : List ℕ) : RefusalKind → Type 0 where
   fault_text : {column byte : ℕ} → IsBadByte line column byte → IsFault before line Text
@@ -96,6 +106,8 @@ pub data IsFault (before : Declared) (line : List ℕ) : RefusalKind → Type 0 
       → HasTexts line texts → before.problem ≡ Some problem → IsLimitFaultOf before problem texts → IsFault before line Limit
   fault_scope : {texts : List (List ℕ)} {problem : PlainProblem}
       → HasTexts line texts → before.problem ≡ Some problem → IsScopeFaultOf before problem texts → IsFault before line Scope
+  fault_grade : {texts : List (List ℕ)} {problem : PlainProblem}
+      → HasTexts line texts → before.problem ≡ Some problem → IsGradeFaultOf before texts → IsFault before line Grade
 
 -- the place of a kind in the order of kinds
 abbrev pub rank : RefusalKind → ℕ
@@ -105,7 +117,8 @@ rank Syntax = 2
 rank Name = 3
 rank Limit = 4
 rank Scope = 5
-rank Unfinished = 6
+rank Grade = 6
+rank Unfinished = 7
 
 -- the first kind, in the order of kinds, of which the line has a fault
 pub record IsFirstFault (before : Declared) (line : List ℕ) (kind : RefusalKind) : Type 0 where

@@ -2,10 +2,14 @@
 use Rattle.std.specs.Prelude.{◌≡◌, ℕ, ◌+◌, ◌<◌, List, [], ◌∷◌, ◌++◌, length, Option, None, Some, Contains}
 use Rattle.hk_text.specs.Lines.{lines}
 use Rattle.hk_text.specs.Tokens.{HasTexts}
-use Rattle.hk_parse.specs.BlockLines.{Part, MayStand as MayStandIn, Begins, IsGoodAfter, whole_spec}
+use Rattle.hk_kinds.specs.declared.kinds.Kind.{Kind}
+use Rattle.hk_parse.specs.BlockLines.{Part, MayStand as MayStandIn, Begins, IsGoodAfter, latest_step, whole_spec}
 use Rattle.hk_parse.specs.LineTexts.{ParamText, LineText, Begin, End, SaysLine}
 use Rattle.hk_spec.specs.declared.expressions.Cond.{Cond}
-use Rattle.hk_spec.specs.Specifications.{Specification}
+use Rattle.hk_spec.specs.declared.parts.StepExpr.{StepExpr}
+use Rattle.hk_spec.specs.declared.senses.Sense.{Sense}
+use Rattle.hk_spec.specs.Grades.{Kinds, wrong_step, wrong_test}
+use Rattle.hk_spec.specs.Specifications.{Specification, kinds_of_properties}
 use Rattle.hk_model.specs.Limits.{most_specifications}
 use Rattle.hk_lines.specs.Posts.{Post, SaysPost}
 use Rattle.hk_model.specs.Postings.{AddsPost, spec_of}
@@ -30,7 +34,20 @@ pub record Opens (specs : List Specification) (name : List ℕ) (params : List P
   pub room : length specs < most_specifications
   pub begins : Begins name params part
 
--- a good line: one without tokens, which has no effect; outside of a specification one that says a statement which may stand there, a post, or the first line of a specification; in a specification one of its lines, or its end
+-- the kinds of the properties of an open specification
+abbrev pub kinds_so_far : Part → Kinds
+kinds_so_far part = record { down = kinds_of_properties part.down; up = kinds_of_properties part.up }
+
+-- the sense of what the latest line of an open specification gave, where it isn't allowed: of its latest step, or else of its test
+abbrev pub wrong_latest : Part → Option Sense
+wrong_latest part = by (latest_step part) part.test
+  where
+    by : Option (Kind × StepExpr) → Option Cond → Option Sense
+    by (Some (kind, e)) test = wrong_step (kinds_so_far part) kind e
+    by None (Some test) = wrong_test (kinds_so_far part) test
+    by None None = None
+
+-- a good line: one without tokens, which has no effect; outside of a specification one that says a statement which may stand there, a post, or the first line of a specification; in a specification one of its lines, whose test or step has an allowed sense, or its end
 pub data IsGoodLine (before : Declared) (line : List ℕ) : Declared → Type 0 where
   good_empty : HasTexts line [] → IsGoodLine before line before
   good_statement : {texts : List (List ℕ)} {statement : Statement} {problem : Option PlainProblem}
@@ -43,7 +60,7 @@ pub data IsGoodLine (before : Declared) (line : List ℕ) : Declared → Type 0 
       → HasTexts line texts → before.block ≡ None → SaysLine texts (Begin name params) → before.problem ≡ Some problem → Opens before.specs name params part
       → IsGoodLine before line (record before { block = Some part })
   good_inside : {texts : List (List ℕ)} {part after : Part} {text : LineText}
-      → HasTexts line texts → before.block ≡ Some part → SaysLine texts text → IsGoodAfter part text after
+      → HasTexts line texts → before.block ≡ Some part → SaysLine texts text → IsGoodAfter part text after → wrong_latest after ≡ None
       → IsGoodLine before line (record before { block = Some after })
   good_end : {texts : List (List ℕ)} {part : Part} {test : Cond}
       → HasTexts line texts → before.block ≡ Some part → SaysLine texts End → MayStandIn part End → part.test ≡ Some test

@@ -1,9 +1,9 @@
 -- Problems, and when one is valid.
-use Rattle.std.specs.Prelude.{◌≡◌, ℕ, ◌<◌, ◌≤◌, ◌^◌, ℤ, neg_ℤ, ◌≤ℤ◌, List, length, All, Option, IfSome, IsTrue, false}
+use Rattle.std.specs.Prelude.{◌≡◌, ℕ, ◌<◌, ◌≤◌, ◌^◌, ℤ, neg_ℤ, ◌≤ℤ◌, List, length, All, Option, IfSome}
 use Rattle.std.specs.List.Sorted.{IsStrictlyIncreasing}
 use Rattle.hk_base.specs.Sets.{Has}
-use Rattle.hk_spec.specs.Scopes.{is_good_cond}
-use Rattle.hk_spec.specs.Specifications.{BoundSpecification, IsBound, test_scope}
+use Rattle.hk_spec.specs.Grades.{IsGraded}
+use Rattle.hk_spec.specs.Specifications.{BoundSpecification, IsBound, IsWithoutBest}
 use Rattle.hk_model.specs.declared.problem.Constraint.{Constraint}
 use Rattle.hk_model.specs.declared.problem.Constraint.TheVariants.{AllDifferent, Sum, User}
 use Rattle.hk_model.specs.declared.linear.Linear.{Linear}
@@ -34,11 +34,12 @@ pub record IsLinear (variables : ℕ) (scope : List ℕ) (coefs : List ℤ) : Ty
   pub one_each : length coefs ≡ length scope
   pub small : All (IsWithin greatest_coefficient) coefs
 
--- the specification with its arguments is for scopes of that many variables, and its test doesn't use the bound on the cost
+-- the specification with its arguments is for scopes of that many variables, its test doesn't use the bound on the cost, and it is graded
 pub record IsPosted (bound : BoundSpecification) (count : ℕ) : Type 0 where
   pub rules : IsBound bound
   pub len : bound.len ≡ count
-  pub no_best : IsTrue (is_good_cond (record (test_scope bound.spec) { best = false }) bound.spec.test)
+  pub no_best : IsWithoutBest bound.spec
+  pub graded : IsGraded bound.spec
 
 -- the constraint's scope is one of that many variables; the bounds of a sum are at most 1,000,000,000,000 in size; a specification is one for such a scope
 abbrev pub IsConstraint : ℕ → Constraint → Type 0

@@ -9,7 +9,7 @@ ghost use Rattle.hk_text.specs.Tokens.{HasTexts, IsTokenIn};
 ghost use Rattle.hk_lines.specs.Plain.{statement_of};
 ghost use Rattle.hk_lines.specs.Later.{BeginsLater};
 ghost use Rattle.hk_model.specs.inside.Faults.{EndsBlock, IsLineFault, IsPostFaultAfter, IsStatementFault, Posts, as_begin_fault, as_line_fault};
-ghost use Rattle.hk_model.specs.Models.{IsGoodLine, nothing_declared};
+ghost use Rattle.hk_model.specs.Models.{IsGoodLine, nothing_declared, wrong_latest};
 ghost use Rattle.hk_model.specs.Postings.{spec_of};
 ghost use Rattle.hk_lines.specs.PostShapes.{plain_post};
 ghost use Rattle.hk_model.specs.Declares.{Declares};
@@ -21,6 +21,7 @@ use crate::faults::LineFault;
 use crate::limits::SPECIFICATIONS;
 use crate::refusal::RefusalKind;
 use hk_base::List;
+use hk_grade::{Properties, Sense, wrong_step, wrong_test};
 use hk_lines::{PostShape, Shape, begins_later, post_of, shape_of};
 use hk_parse::{Block, BlockFault};
 use hk_spec::Spec;
@@ -100,7 +101,7 @@ impl Declared {
             None => self.read_outside(alloc, line, tokens),
             Some(block) => match block.add(alloc, line, tokens) {
                 Ok(true) => self.end(),
-                Ok(false) => Ok(()),
+                Ok(false) => judge_latest(block),
                 Err(fault) => Err(line_fault(fault)),
             },
         }
@@ -289,5 +290,34 @@ fn line_fault(fault: BlockFault) -> LineFault
         BlockFault::Name => LineFault::Bad(RefusalKind::Name),
         BlockFault::Limit => LineFault::Bad(RefusalKind::Limit),
         BlockFault::Memory => LineFault::NoMemory,
+    }
+}
+
+/// Whether the test or the step that the latest line of a specification gave has an allowed sense.
+fn judge_latest(block: &Block) -> Result<(), LineFault>
+    ensures ok { OnOk result (wrong_latest block.now ≡ None) }
+    ensures err { IfErr result (λ fault. (fault ≡ LineFault.Bad RefusalKind.Grade) × IsSome (wrong_latest block.now)) }
+{
+    match wrong_latest(block) {
+        Some(_) => Err(LineFault::Bad(RefusalKind::Grade)),
+        None => Ok(()),
+    }
+}
+
+/// The sense of what the latest line of a specification gave, where it isn't allowed.
+fn wrong_latest(block: &Block) -> Option<Sense>
+    ensures { result ≡ wrong_latest block.now }
+{
+    let names = block.test_names();
+    let of = Properties {
+        down: names.down,
+        up: names.up,
+    };
+    if let Some((kind, step)) = block.latest_step() {
+        return wrong_step(kind, step, &of);
+    }
+    match block.test() {
+        Some(test) => wrong_test(test, &of),
+        None => None,
     }
 }

@@ -18,6 +18,8 @@ pub enum RefusalKind {
     Limit,
     /// The variables of a scope don't stand in the order of their declaration.
     Scope,
+    /// The test or the step may move in a sense that isn't allowed where states are merged.
+    Grade,
     /// There is no header, or a specification isn't ended.
     Unfinished,
 }

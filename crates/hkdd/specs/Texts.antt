@@ -2,7 +2,7 @@
 use Rattle.std.specs.Prelude.{ℕ, List, ◌++◌, codes}
 use Rattle.std.specs.Fmt.{decimal}
 use Rattle.hk_model.specs.declared.refusal.RefusalKind.{RefusalKind}
-use Rattle.hk_model.specs.declared.refusal.RefusalKind.TheVariants.{Text, Later, Syntax, Name, Limit, Scope, Unfinished}
+use Rattle.hk_model.specs.declared.refusal.RefusalKind.TheVariants.{Text, Later, Syntax, Name, Limit, Scope, Grade, Unfinished}
 
 -- how the program is called
 abbrev pub usage_text : List ℕ
@@ -24,6 +24,7 @@ kind_text Syntax = codes "Syntax"
 kind_text Name = codes "Name"
 kind_text Limit = codes "Limit"
 kind_text Scope = codes "Scope"
+kind_text Grade = codes "Grade"
 kind_text Unfinished = codes "Unfinished"
 
 -- that a model is refused at a line, and why

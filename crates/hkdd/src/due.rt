@@ -109,6 +109,7 @@ fn push_kind(text: &mut Bytes, kind: RefusalKind) -> Result<(), AllocError>
         RefusalKind::Name => text.push_all(b"Name"),
         RefusalKind::Limit => text.push_all(b"Limit"),
         RefusalKind::Scope => text.push_all(b"Scope"),
+        RefusalKind::Grade => text.push_all(b"Grade"),
         RefusalKind::Unfinished => text.push_all(b"Unfinished"),
     }
 }

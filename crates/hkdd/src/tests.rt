@@ -37,13 +37,17 @@ const TURNED: &str = "hkm 1\nvar x in 0..1\nvar y in 0..1\nalldifferent (y, x)\n
 const RISE: &str =
     "hkm 1\nvar x in 0..3\nvar y in 0..3\nspec rise ()\ndown m Min 0\ntest ((i < 1) or (m < v))\nstep m v\nend\npost rise () (x, y)\n";
 
+/// The same with a property that grows, so that its test may begin to fail where states are merged.
+const RISE_BY_MAX: &str =
+    "hkm 1\nvar x in 0..3\nvar y in 0..3\nspec rise ()\ndown m Max 0\ntest ((i < 1) or (m < v))\nstep m v\nend\npost rise () (x, y)\n";
+
 const AT_LEAST: &str =
     "hkm 1\nvar x in 0..2\nspec atleast (num a)\ntest (v >= a)\nend\npost atleast (2) (x)\n";
 
 const TWO_BOUNDS: &str =
     "hkm 1\nvar x in 0..2\nspec atleast (num a)\ntest (v >= a)\nend\npost atleast (2, 3) (x)\n";
 
-/// Distinct values, by a specification that counts them.
+/// Distinct values, by a specification that counts them. One side of its test rises, and the other falls.
 const NAIVE: &str =
     "hkm 1\nvar x in 0..1\nspec naive ()\ndown some SomeBits {}\ntest ((card(some) > i) or (v notin some))\nstep some (some | {v})\nend\npost naive () (x)\n";
 
@@ -83,6 +87,36 @@ sum (3*ben_painting, 6*ben_wiring, 2*ben_cleaning) 0..8
 
 # what it costs
 minimize (40*ann_painting, 36*ben_painting, 50*ann_wiring, 72*ben_wiring, 20*ann_cleaning, 24*ben_cleaning)
+";
+
+const DIFFER: &str =
+    "# Three guides and three tours. The value of a variable is the tour that the guide leads.
+#
+# Shows: a constraint of the planner's own with two properties, each of which moves one way only where
+# states are merged: `some` rises and `all` falls.
+#
+# Prints:
+#   solution
+#   ann 0
+#   ben 1
+#   cleo 2
+
+hkm 1
+
+var ann in 0..2
+var ben in 0..2
+var cleo in 0..2
+
+# no two guides lead the same tour
+spec differ ()
+down some SomeBits {}
+down all AllBits {}
+test ((card((some | {v})) > i) and (v notin all))
+step some (some | {v})
+step all (all | {v})
+end
+
+post differ () (ann, ben, cleo)
 ";
 
 const DUTIES: &str =
@@ -237,83 +271,81 @@ fn ends_with<R: Threads + Sync>(
 /// A command line, the model in `m`, and the status and the text that are due.
 type Row = (&'static str, &'static str, u8, &'static str);
 
-fn rows() -> [Row; 26] {
-    [
-        ("solve m", "hkm 1\n", 0, "solution\n"),
-        ("solve m", PAIR, 0, "solution\nx 0\ny 1\n"),
-        ("solve m", THREE, 0, "infeasible\n"),
-        ("solve m", SUM, 0, "optimal 1\nx 0\ny 1\n"),
-        ("solve m", LEAST, 0, "optimal -1\nx 1\ny 0\n"),
-        ("solve m", LARGE, 3, "refused line 4 Limit\n"),
-        ("solve m", "hkm 1\nvar x in {127}\n", 0, "solution\nx 127\n"),
-        (
-            "solve m",
-            "hkm 1\nvar x in 0..128\n",
-            3,
-            "refused line 2 Limit\n",
-        ),
-        ("solve m", "hkm 1\nvar $\n", 3, "refused line 2 Text\n"),
-        ("solve m", "hkm 2\n", 3, "refused line 1 Syntax\n"),
-        ("solve m", "hkm 1\ngroup\n", 3, "refused line 2 Later\n"),
-        ("solve m", TURNED, 3, "refused line 4 Scope\n"),
-        ("solve m", TWICE, 3, "refused line 3 Name\n"),
-        ("solve m", "", 3, "refused line 1 Unfinished\n"),
-        ("solve m", RISE, 0, "solution\nx 0\ny 1\n"),
-        ("solve m", AT_LEAST, 0, "solution\nx 2\n"),
-        ("solve m", TWO_BOUNDS, 3, "refused line 6 Name\n"),
-        ("solve m", NAIVE, 0, "solution\nx 0\n"),
-        (
-            "solve m",
-            "hkm 1\nspec s ()\n",
-            3,
-            "refused line 3 Unfinished\n",
-        ),
-        ("solve q", PAIR, 4, "read fault\n"),
-        ("", PAIR, 2, "usage: hkdd solve FILE\n"),
-        ("solve", PAIR, 2, "usage: hkdd solve FILE\n"),
-        ("solve m m", PAIR, 2, "usage: hkdd solve FILE\n"),
-        ("solve m width 0", PAIR, 2, "usage: hkdd solve FILE\n"),
-        (
-            "solve m budget 5 width 2",
-            PAIR,
-            2,
-            "usage: hkdd solve FILE\n",
-        ),
-        ("demo 01", PAIR, 2, "usage: hkdd solve FILE\n"),
-    ]
-}
+const ROWS: &[Row] = &[
+    ("solve m", "hkm 1\n", 0, "solution\n"),
+    ("solve m", PAIR, 0, "solution\nx 0\ny 1\n"),
+    ("solve m", THREE, 0, "infeasible\n"),
+    ("solve m", SUM, 0, "optimal 1\nx 0\ny 1\n"),
+    ("solve m", LEAST, 0, "optimal -1\nx 1\ny 0\n"),
+    ("solve m", LARGE, 3, "refused line 4 Limit\n"),
+    ("solve m", "hkm 1\nvar x in {127}\n", 0, "solution\nx 127\n"),
+    (
+        "solve m",
+        "hkm 1\nvar x in 0..128\n",
+        3,
+        "refused line 2 Limit\n",
+    ),
+    ("solve m", "hkm 1\nvar $\n", 3, "refused line 2 Text\n"),
+    ("solve m", "hkm 2\n", 3, "refused line 1 Syntax\n"),
+    ("solve m", "hkm 1\ngroup\n", 3, "refused line 2 Later\n"),
+    ("solve m", TURNED, 3, "refused line 4 Scope\n"),
+    ("solve m", TWICE, 3, "refused line 3 Name\n"),
+    ("solve m", "", 3, "refused line 1 Unfinished\n"),
+    ("solve m", RISE, 0, "solution\nx 0\ny 1\n"),
+    ("solve m", RISE_BY_MAX, 3, "refused line 6 Grade\n"),
+    ("solve m", AT_LEAST, 0, "solution\nx 2\n"),
+    ("solve m", TWO_BOUNDS, 3, "refused line 6 Name\n"),
+    ("solve m", NAIVE, 3, "refused line 5 Grade\n"),
+    (
+        "solve m",
+        "hkm 1\nspec s ()\n",
+        3,
+        "refused line 3 Unfinished\n",
+    ),
+    ("solve q", PAIR, 4, "read fault\n"),
+    ("", PAIR, 2, "usage: hkdd solve FILE\n"),
+    ("solve", PAIR, 2, "usage: hkdd solve FILE\n"),
+    ("solve m m", PAIR, 2, "usage: hkdd solve FILE\n"),
+    ("solve m width 0", PAIR, 2, "usage: hkdd solve FILE\n"),
+    (
+        "solve m budget 5 width 2",
+        PAIR,
+        2,
+        "usage: hkdd solve FILE\n",
+    ),
+    ("demo 01", PAIR, 2, "usage: hkdd solve FILE\n"),
+];
 
 /// The models of `examples/`, as the files have them, with the text that each comment shows.
-fn examples() -> [Row; 5] {
-    [
-        (
-            "solve m",
-            COSTS,
-            0,
-            "optimal 106\nann_painting 0\nben_painting 1\nann_wiring 1\nben_wiring 0\nann_cleaning 1\nben_cleaning 0\n",
-        ),
-        (
-            "solve m",
-            DUTIES,
-            0,
-            "solution\nann_opens 0\nann_closes 1\nben_opens 1\nben_closes 0\ncleo_opens 2\ncleo_closes 3\n",
-        ),
-        (
-            "solve m",
-            EARLY,
-            0,
-            "solution\nfirst 0\nsecond 1\nthird 2\n",
-        ),
-        ("solve m", PAIRS, 0, "solution\nlorry_a 0\nlorry_b 1\n"),
-        ("solve m", SHORT_WEEK, 0, "infeasible\n"),
-    ]
-}
+const EXAMPLES: &[Row] = &[
+    (
+        "solve m",
+        COSTS,
+        0,
+        "optimal 106\nann_painting 0\nben_painting 1\nann_wiring 1\nben_wiring 0\nann_cleaning 1\nben_cleaning 0\n",
+    ),
+    ("solve m", DIFFER, 0, "solution\nann 0\nben 1\ncleo 2\n"),
+    (
+        "solve m",
+        DUTIES,
+        0,
+        "solution\nann_opens 0\nann_closes 1\nben_opens 1\nben_closes 0\ncleo_opens 2\ncleo_closes 3\n",
+    ),
+    (
+        "solve m",
+        EARLY,
+        0,
+        "solution\nfirst 0\nsecond 1\nthird 2\n",
+    ),
+    ("solve m", PAIRS, 0, "solution\nlorry_a 0\nlorry_b 1\n"),
+    ("solve m", SHORT_WEEK, 0, "infeasible\n"),
+];
 
 #[test]
 fn prints_what_is_due(rt: HostRuntime) -> Result<(), Fail> {
-    for (line, model, status, text) in rows().into_iter().chain(examples()) {
+    for (line, model, status, text) in ROWS.iter().chain(EXAMPLES) {
         let mut host = host_with(rt.alloc(), model.as_bytes(), OUT_BYTES, NONE)?;
-        let ended = ends_with(&rt, rt.alloc(), line, &mut host, status, text)?;
+        let ended = ends_with(&rt, rt.alloc(), line, &mut host, *status, text)?;
         assert!(rt; ended, "{line:?} on {model:?}");
     }
     Ok(())

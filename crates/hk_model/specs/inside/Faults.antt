@@ -9,7 +9,7 @@ use Rattle.hk_model.specs.declared.faults.LineFault.TheVariants.{Bad, NoMemory}
 use Rattle.hk_model.specs.declared.refusal.ModelError.{ModelError}
 use Rattle.hk_model.specs.declared.refusal.ModelError.TheVariants.{Refused, Memory}
 use Rattle.hk_model.specs.declared.refusal.RefusalKind.{RefusalKind}
-use Rattle.hk_model.specs.declared.refusal.RefusalKind.TheVariants.{Text, Later, Syntax, Name, Limit, Scope, Unfinished}
+use Rattle.hk_model.specs.declared.refusal.RefusalKind.TheVariants.{Text, Later, Syntax, Name, Limit, Scope, Grade, Unfinished}
 use Rattle.hk_model.specs.LineFaults.{IsNameFault, IsLimitFault, IsScopeFault, IsFirstFault}
 use Rattle.hk_model.specs.Models.{Declared, IsBadLine}
 use Rattle.hk_lines.specs.Posts.{Post}
@@ -30,6 +30,7 @@ IsFaultyStatement None statement Limit = ⊥
 IsFaultyStatement (Some before) statement Limit = IsLimitFault before statement × (IsNameFault before statement → ⊥)
 IsFaultyStatement None statement Scope = ⊥
 IsFaultyStatement (Some before) statement Scope = IsScopeFault before statement × (IsNameFault before statement → ⊥) × (IsLimitFault before statement → ⊥)
+IsFaultyStatement before statement Grade = ⊥
 IsFaultyStatement before statement Unfinished = ⊥
 
 -- why the reader stops at a statement: it has this fault first; want of memory says nothing

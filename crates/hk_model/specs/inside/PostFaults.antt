@@ -21,6 +21,7 @@ IsFaultyPost specs before post kind.Syntax = ⊥
 IsFaultyPost specs before post kind.Name = PostNameFault specs before post
 IsFaultyPost specs before post kind.Limit = PostLimitFault before post × (PostNameFault specs before post → ⊥)
 IsFaultyPost specs before post kind.Scope = PostScopeFault before post × (PostNameFault specs before post → ⊥) × (PostLimitFault before post → ⊥)
+IsFaultyPost specs before post kind.Grade = ⊥
 IsFaultyPost specs before post kind.Unfinished = ⊥
 
 -- why the reader stops at a post: it has this fault first; want of memory says nothing

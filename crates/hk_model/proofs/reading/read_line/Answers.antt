@@ -2,8 +2,7 @@ use Rattle.std.proofs.Common.{◌≡◌, sym, subst}
 use Rattle.std.specs.List.{All}
 use Rattle.hk_text.specs.Texts.{texts_of}
 use Rattle.hk_text.specs.Tokens.{HasTexts, IsTokenIn}
-use Rattle.hk_model.specs.LineFaults.{fault_text}
-use Rattle.hk_model.proofs.FaultRanks.{has_texts, first_text, fault_bad}
+use Rattle.hk_model.proofs.FaultRanks.{has_texts, first_text, text_bad}
 use Rattle.hk_model.proofs.reading.read_line.Goals as goal
 
 pub read-requires-clause-has : goal.read-requires-clause-has
@@ -23,9 +22,9 @@ read-requires-clause-within c =
 pub returns-in-Err-NotAscii-clause-err : goal.returns-in-Err-NotAscii-clause-err
 returns-in-Err-NotAscii-clause-err c =
     let fault = rw c.in-Err-NotAscii.field-0-is at c.in-Err-NotAscii.ensures.err in
-    (fault_bad (fault_text fault.1), first_text fault.1)
+    (text_bad fault.1, first_text fault.1)
 
 pub returns-in-Err-BadByte-clause-err : goal.returns-in-Err-BadByte-clause-err
 returns-in-Err-BadByte-clause-err c =
     let fault = rw c.in-Err-BadByte.field-0-is at c.in-Err-BadByte.ensures.err in
-    (fault_bad (fault_text fault.1), first_text fault.1)
+    (text_bad fault.1, first_text fault.1)

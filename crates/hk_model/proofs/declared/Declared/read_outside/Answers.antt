@@ -4,7 +4,7 @@ use Rattle.hk_text.specs.Texts.{texts_of}
 use Rattle.hk_lines.specs.Plain.{statement_of}
 use Rattle.hk_model.specs.inside.Faults.{IsStatementFault, IsLineFault}
 use Rattle.hk_lines.specs.Shapes.{IsShapeOf}
-use Rattle.hk_model.proofs.FaultRanks.{later_line, later_begins, first_later, fault_bad}
+use Rattle.hk_model.proofs.FaultRanks.{later_line, later_begins, first_later, none_open, fault_bad}
 use Rattle.hk_model.proofs.FirstFaults.{first_of_statement}
 use Rattle.hk_model.proofs.OutsideLines.{silent_line, effect_after}
 use Rattle.hk_model.proofs.declared.Declared.read_outside.Goals as goal
@@ -18,7 +18,7 @@ pub returns-then-is_later-clause-err : goal.returns-then-is_later-clause-err
 returns-then-is_later-clause-err c =
     let both = c.is_later.ensures.0 c.if-is_later.true in
     let first = first_later (later_line c.requires.has both.0 c.requires.outside both.1) in
-    (fault_bad first.fault, first)
+    (fault_bad (none_open c.args.self.now c.requires.outside) first.fault, first)
 
 pub returns-in-Ok-Some-clause-ok : goal.returns-in-Ok-Some-clause-ok
 returns-in-Ok-Some-clause-ok c = on_ok_weaker c.declare.result
