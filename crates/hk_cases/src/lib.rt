@@ -11,6 +11,8 @@ mod answers;
 #[cfg(test)]
 mod blocks;
 #[cfg(test)]
+mod grades;
+#[cfg(test)]
 mod models;
 #[cfg(test)]
 mod specs;

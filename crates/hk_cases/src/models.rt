@@ -116,50 +116,52 @@ fn judged_free(alloc: Global, values: &[u8], count: u16) -> Option<Option<i64>> 
 /// A text, how many variables and constraints it declares, and whether an objective.
 type Read = (&'static str, usize, usize, bool);
 
-fn good_models() -> [Read; 9] {
-    [
-        ("hkm 1", 0, 0, false),
-        ("hkm 1\n# days\n\nvar x in 0..127 # a day\n", 1, 0, false),
-        (
-            "hkm 1\nvar x in {127}\nvar y in {3, 0..1, 1..2}\n",
-            2,
-            0,
-            false,
-        ),
-        (
-            "hkm 1\nvar x in 0..1\nvar y in 0..1\nvar z in 0..1\nalldifferent (x, y, z)\n",
-            3,
-            1,
-            false,
-        ),
-        (
-            "hkm 1\nvar x in 0..1\nvar y in 0..1\nsum (1*x, -1000000*y) 1..-1\nminimize (-1*x)\n",
-            2,
-            1,
-            true,
-        ),
-        (
-            "hkm 1\nvar x in 0..2\nspec atleast (num a)\ntest (v >= a)\nend\npost atleast (2) (x)\n",
-            1,
-            1,
-            false,
-        ),
-        (
-            "hkm 1\nspec x ()\n# any\ntest true\n\nend\nvar x in 0..1\n",
-            1,
-            0,
-            false,
-        ),
-        (RISE, 2, 1, false),
-        (NEAR, 2, 1, false),
-    ]
-}
+const GOOD_MODELS: &[Read] = &[
+    ("hkm 1", 0, 0, false),
+    ("hkm 1\n# days\n\nvar x in 0..127 # a day\n", 1, 0, false),
+    (
+        "hkm 1\nvar x in {127}\nvar y in {3, 0..1, 1..2}\n",
+        2,
+        0,
+        false,
+    ),
+    (
+        "hkm 1\nvar x in 0..1\nvar y in 0..1\nvar z in 0..1\nalldifferent (x, y, z)\n",
+        3,
+        1,
+        false,
+    ),
+    (
+        "hkm 1\nvar x in 0..1\nvar y in 0..1\nsum (1*x, -1000000*y) 1..-1\nminimize (-1*x)\n",
+        2,
+        1,
+        true,
+    ),
+    (
+        "hkm 1\nvar x in 0..2\nspec atleast (num a)\ntest (v >= a)\nend\npost atleast (2) (x)\n",
+        1,
+        1,
+        false,
+    ),
+    (
+        "hkm 1\nspec x ()\n# any\ntest true\n\nend\nvar x in 0..1\n",
+        1,
+        0,
+        false,
+    ),
+    (RISE, 2, 1, false),
+    (NEAR, 2, 1, false),
+];
 
 #[test]
 fn models_are_read(rt: HostRuntime) {
-    for (text, variables, constraints, objective) in good_models() {
+    for (text, variables, constraints, objective) in GOOD_MODELS {
         let found = declared(rt.alloc(), text.as_bytes());
-        assert_eq!(rt; found, Some((variables, constraints, objective)), "{text}");
+        assert_eq!(rt;
+            found,
+            Some((*variables, *constraints, *objective)),
+            "{text}"
+        );
     }
 }
 
@@ -215,123 +217,202 @@ fn values_are_judged(rt: HostRuntime) {
 /// A text, and the line and the kind of its refusal.
 type Refused = (&'static str, u32, RefusalKind);
 
-fn bad_models() -> [Refused; 20] {
-    [
-        ("", 1, RefusalKind::Unfinished),
-        ("# nothing\n", 2, RefusalKind::Unfinished),
-        ("hkm 1\nvar $", 2, RefusalKind::Text),
-        ("hkm 2", 1, RefusalKind::Syntax),
-        ("hkm 1\nx", 2, RefusalKind::Syntax),
-        (
-            "hkm 1\nvar x in 0..1\nalldifferent (x) x",
-            3,
-            RefusalKind::Syntax,
-        ),
-        ("var x in {0}", 1, RefusalKind::Syntax),
-        ("hkm 1\nvar x in {}", 2, RefusalKind::Limit),
-        ("hkm 1\nvar x in 0..128", 2, RefusalKind::Limit),
-        ("hkm 1\nvar x in 1..0", 2, RefusalKind::Limit),
-        ("hkm 1\nvar x in {3, 2..1}", 2, RefusalKind::Limit),
-        ("hkm 1\nvar x in 00..1", 2, RefusalKind::Syntax),
-        (
-            "hkm 1\nvar x in 0..123456789012345678901234567890",
-            2,
-            RefusalKind::Limit,
-        ),
-        (
-            "hkm 1\nvar x in 0..1\nvar x in 0..128",
-            3,
-            RefusalKind::Name,
-        ),
-        (
-            "hkm 1\nvar x in 0..1\nvar y in 0..1\nalldifferent (y, x)",
-            4,
-            RefusalKind::Scope,
-        ),
-        (
-            "hkm 1\nvar x in 0..1\nsum (1000001*x) 1..1",
-            3,
-            RefusalKind::Limit,
-        ),
-        (
-            "hkm 1\nvar x in 0..1\nsum (-0*x) 1..1",
-            3,
-            RefusalKind::Syntax,
-        ),
-        (
-            "hkm 1\nvar x in 0..1\nsum (1*x) 0..1000000000001",
-            3,
-            RefusalKind::Limit,
-        ),
-        (
-            "hkm 1\nvar x in 0..1\nminimize (1*x)\nminimize (2000000*x)",
-            4,
-            RefusalKind::Name,
-        ),
-        (
-            "hkm 1\nvar x in 0..1\namong (x) {0} 1..1",
-            3,
-            RefusalKind::Later,
-        ),
-    ]
-}
+const BAD_MODELS: &[Refused] = &[
+    ("", 1, RefusalKind::Unfinished),
+    ("# nothing\n", 2, RefusalKind::Unfinished),
+    ("hkm 1\nvar $", 2, RefusalKind::Text),
+    ("hkm 2", 1, RefusalKind::Syntax),
+    ("hkm 1\nx", 2, RefusalKind::Syntax),
+    (
+        "hkm 1\nvar x in 0..1\nalldifferent (x) x",
+        3,
+        RefusalKind::Syntax,
+    ),
+    ("var x in {0}", 1, RefusalKind::Syntax),
+    ("hkm 1\nvar x in {}", 2, RefusalKind::Limit),
+    ("hkm 1\nvar x in 0..128", 2, RefusalKind::Limit),
+    ("hkm 1\nvar x in 1..0", 2, RefusalKind::Limit),
+    ("hkm 1\nvar x in {3, 2..1}", 2, RefusalKind::Limit),
+    ("hkm 1\nvar x in 00..1", 2, RefusalKind::Syntax),
+    (
+        "hkm 1\nvar x in 0..123456789012345678901234567890",
+        2,
+        RefusalKind::Limit,
+    ),
+    (
+        "hkm 1\nvar x in 0..1\nvar x in 0..128",
+        3,
+        RefusalKind::Name,
+    ),
+    (
+        "hkm 1\nvar x in 0..1\nvar y in 0..1\nalldifferent (y, x)",
+        4,
+        RefusalKind::Scope,
+    ),
+    (
+        "hkm 1\nvar x in 0..1\nsum (1000001*x) 1..1",
+        3,
+        RefusalKind::Limit,
+    ),
+    (
+        "hkm 1\nvar x in 0..1\nsum (-0*x) 1..1",
+        3,
+        RefusalKind::Syntax,
+    ),
+    (
+        "hkm 1\nvar x in 0..1\nsum (1*x) 0..1000000000001",
+        3,
+        RefusalKind::Limit,
+    ),
+    (
+        "hkm 1\nvar x in 0..1\nminimize (1*x)\nminimize (2000000*x)",
+        4,
+        RefusalKind::Name,
+    ),
+    (
+        "hkm 1\nvar x in 0..1\namong (x) {0} 1..1",
+        3,
+        RefusalKind::Later,
+    ),
+];
 
-fn bad_specifications() -> [Refused; 14] {
-    [
-        ("hkm 1\nspec s ()", 3, RefusalKind::Unfinished),
-        ("spec s ()", 1, RefusalKind::Syntax),
-        ("hkm 1\nend", 2, RefusalKind::Syntax),
-        ("hkm 1\nspec s ()\nend", 3, RefusalKind::Syntax),
-        ("hkm 1\nspec s ()\ngroup", 3, RefusalKind::Syntax),
-        ("hkm 1\nspec s ()\ntest (best <= v)", 3, RefusalKind::Name),
-        (
-            "hkm 1\nspec s ()\ntest true\nend\nspec s ()",
-            5,
-            RefusalKind::Name,
-        ),
-        (
-            "hkm 1\nvar x in 0..1\nspec s ()\ntest true\npost s () (x)",
-            5,
-            RefusalKind::Syntax,
-        ),
-        ("hkm 1\nvar x in 0..1\npost s () (x)", 3, RefusalKind::Name),
-        (
-            "hkm 1\nvar x in 0..2\nspec atleast (num a)\ntest (v >= a)\nend\npost atleast (2, 3) (x)",
-            6,
-            RefusalKind::Name,
-        ),
-        (
-            "hkm 1\nvar x in 0..2\nspec atleast (num a)\ntest (v >= a)\nend\npost atleast ({2}) (x)",
-            6,
-            RefusalKind::Name,
-        ),
-        (
-            "hkm 1\nvar x in 0..1\nspec s (list c)\ntest (c[i] <= v)\nend\npost s ([1, 2]) (x)",
-            6,
-            RefusalKind::Limit,
-        ),
-        (
-            "hkm 1\nvar x in 0..1\nvar y in 0..1\nspec s ()\ntest true\nend\npost s () (y, x)",
-            7,
-            RefusalKind::Scope,
-        ),
-        (
-            "hkm 1\nvar x in 0..1\nspec s (num a)\ntest (v >= a)\nend\npost s (1000000000001) (x)",
-            6,
-            RefusalKind::Limit,
-        ),
-    ]
+const BAD_SPECIFICATIONS: &[Refused] = &[
+    ("hkm 1\nspec s ()", 3, RefusalKind::Unfinished),
+    ("spec s ()", 1, RefusalKind::Syntax),
+    ("hkm 1\nend", 2, RefusalKind::Syntax),
+    ("hkm 1\nspec s ()\nend", 3, RefusalKind::Syntax),
+    ("hkm 1\nspec s ()\ngroup", 3, RefusalKind::Syntax),
+    ("hkm 1\nspec s ()\ntest (best <= v)", 3, RefusalKind::Name),
+    (
+        "hkm 1\nspec s ()\ntest true\nend\nspec s ()",
+        5,
+        RefusalKind::Name,
+    ),
+    (
+        "hkm 1\nvar x in 0..1\nspec s ()\ntest true\npost s () (x)",
+        5,
+        RefusalKind::Syntax,
+    ),
+    ("hkm 1\nvar x in 0..1\npost s () (x)", 3, RefusalKind::Name),
+    (
+        "hkm 1\nvar x in 0..2\nspec atleast (num a)\ntest (v >= a)\nend\npost atleast (2, 3) (x)",
+        6,
+        RefusalKind::Name,
+    ),
+    (
+        "hkm 1\nvar x in 0..2\nspec atleast (num a)\ntest (v >= a)\nend\npost atleast ({2}) (x)",
+        6,
+        RefusalKind::Name,
+    ),
+    (
+        "hkm 1\nvar x in 0..1\nspec s (list c)\ntest (c[i] <= v)\nend\npost s ([1, 2]) (x)",
+        6,
+        RefusalKind::Limit,
+    ),
+    (
+        "hkm 1\nvar x in 0..1\nvar y in 0..1\nspec s ()\ntest true\nend\npost s () (y, x)",
+        7,
+        RefusalKind::Scope,
+    ),
+    (
+        "hkm 1\nvar x in 0..1\nspec s (num a)\ntest (v >= a)\nend\npost s (1000000000001) (x)",
+        6,
+        RefusalKind::Limit,
+    ),
+];
+
+const BAD_GRADES: &[Refused] = &[
+    (
+        "hkm 1\nspec s ()\ndown m Min 0\ntest (m > v)",
+        4,
+        RefusalKind::Grade,
+    ),
+    (
+        "hkm 1\nspec s ()\ndown m Min 0\ntest (m > v)\nx",
+        4,
+        RefusalKind::Grade,
+    ),
+    (
+        "hkm 1\nspec s ()\ndown m Min 0\ntest (m > v) x",
+        4,
+        RefusalKind::Syntax,
+    ),
+    (
+        "hkm 1\nspec s ()\ndown m Min 0\ntest (m > q)",
+        4,
+        RefusalKind::Name,
+    ),
+    (
+        "hkm 1\nspec s ()\ndown m Min 0\ntest ((m > v) and (best < v))",
+        4,
+        RefusalKind::Name,
+    ),
+    (
+        "hkm 1\nspec s ()\ndown m Min 0\ntest (m > 1000000000001)",
+        4,
+        RefusalKind::Limit,
+    ),
+    (
+        "hkm 1\nspec s ()\nup m AllBits {}\ntest ((v in m) and (v in {128}))",
+        4,
+        RefusalKind::Limit,
+    ),
+    (
+        "hkm 1\nspec s ()\ndown m Max 0\ntest (m > v)\nstep m (- m)",
+        5,
+        RefusalKind::Grade,
+    ),
+    (
+        "hkm 1\nspec s ()\ndown m Max 0\ntest true\nstep k (- m)",
+        5,
+        RefusalKind::Name,
+    ),
+    (
+        "hkm 1\nspec s ()\ndown m Max 0\nup k Max 0\ntest true\nstep m (k - m)",
+        6,
+        RefusalKind::Name,
+    ),
+    (
+        "hkm 1\nspec s ()\ndown m Max 0\ntest true\nstep m (1000000000001 - m)",
+        5,
+        RefusalKind::Limit,
+    ),
+    (
+        "hkm 1\nspec s ()\ndown m Interval 0..0\ntest true\nstep m v m.lo\nend",
+        5,
+        RefusalKind::Grade,
+    ),
+    (
+        "hkm 1\nspec s ()\ndown m Min 0\nup k Min 0\ntest true\nstep m m\nstep k (v - k)\nend\nend",
+        7,
+        RefusalKind::Grade,
+    ),
+    (
+        "hkm 1\nvar x in 0..1\nspec s ()\ndown m Min 0\ntest (m > v)\nstep m v\nend\npost s () (x)",
+        5,
+        RefusalKind::Grade,
+    ),
+    (
+        "hkm 1\nvar x in 0..1\nspec s ()\ndown m Min 0\ntest (m < v)\nstep m v\nend\npost s () (x, x)",
+        8,
+        RefusalKind::Scope,
+    ),
+];
+
+/// The first of these texts of which another refusal is told.
+fn other_refusal(alloc: Global, rows: &[Refused]) -> Option<&'static str> {
+    for (text, line, kind) in rows {
+        if refused(alloc, text.as_bytes()) != Some((*line, *kind)) {
+            return Some(*text);
+        }
+    }
+    None
 }
 
 #[test]
 fn refusals_are_told(rt: HostRuntime) {
-    for (text, line, kind) in bad_models() {
-        let found = refused(rt.alloc(), text.as_bytes());
-        assert_eq!(rt; found, Some((line, kind)), "{text}");
-    }
-    for (text, line, kind) in bad_specifications() {
-        let found = refused(rt.alloc(), text.as_bytes());
-        assert_eq!(rt; found, Some((line, kind)), "{text}");
+    for rows in [BAD_MODELS, BAD_SPECIFICATIONS, BAD_GRADES] {
+        assert_eq!(rt; other_refusal(rt.alloc(), rows), None);
     }
 }
 
