@@ -1,8 +1,9 @@
 -- The order of states is total and tells any two apart.
-use Rattle.std.proofs.Common.{◌≡◌, ℤ, ap, refl, subst}
+use Rattle.std.proofs.Common.{◌≡◌, ℤ, List, ap, refl, subst}
 use Rattle.std.proofs.Math.Path.{fun_ext}
 use Rattle.hk_kinds.specs.contracts.properties.PropOrd.TheImpl.{cmp-value}
 use Rattle.std.specs.Cmp.{IsTotalOrder}
+use Rattle.std.specs.Cmp.Lexicographic.{slice_cmp}
 use Rattle.std.specs.FinMap.{IsAntisymmetric, int_cmp-IsAntisymmetric, nat_cmp-IsAntisymmetric, slice_cmp-IsAntisymmetric}
 use Rattle.std.specs.Ordering.{int_cmp, ordering_then}
 use Rattle.std.specs.declared.cmp.Ordering.{Ordering}
@@ -24,8 +25,15 @@ derived_is (Bits _) (Num _) = refl
 derived_is (Bits _) (Pair _ _) = refl
 derived_is (Bits _) (Bits _) = refl
 
+derived_order : cmp-value.it ≡ property_order
+derived_order = fun_ext (λ p. fun_ext (λ q. derived_is p q))
+
+-- lists in the order that is derived are in the order of states
+pub derived_states : (mine theirs : List Prop) → slice_cmp cmp-value.it mine theirs ≡ state_order mine theirs
+derived_states mine theirs = ap (λ order. slice_cmp order mine theirs) derived_order
+
 property_total : IsTotalOrder property_order
-property_total = subst IsTotalOrder (fun_ext (λ p. fun_ext (λ q. derived_is p q))) total-law
+property_total = subst IsTotalOrder derived_order total-law
 
 both_equal : (first second : Ordering) → ordering_then first second ≡ Equal → (first ≡ Equal) × (second ≡ Equal)
 both_equal Less second h = cc

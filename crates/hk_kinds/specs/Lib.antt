@@ -1,10 +1,15 @@
 pub mod Covers
+pub mod Distinct
 pub mod Joins
+pub mod Keys
 pub mod Lattices
 pub mod Limits
 pub mod Orders
+pub mod Parts
+pub mod Rows
 pub mod Sets
 pub mod Shapes
 pub mod Tops
+pub mod Views
 pub mod NumberLattices
 pub mod SetLattices

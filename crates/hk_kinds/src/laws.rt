@@ -2,7 +2,9 @@
 ghost use Rattle.std.specs.Prelude.{◌≡◌, ◌↔◌, true, List};
 ghost use Rattle.std.specs.Cmp.{IsTotalOrder};
 ghost use Rattle.std.specs.FinMap.{IsAntisymmetric};
+ghost use Rattle.std.specs.List.{Contains};
 ghost use Rattle.hk_kinds.specs.Covers.{StateCovers, state_covers};
+ghost use Rattle.hk_kinds.specs.Distinct.{Ascends, distinct_states};
 ghost use Rattle.hk_kinds.specs.Joins.{state_join};
 ghost use Rattle.hk_kinds.specs.Lattices.{IsLattice};
 ghost use Rattle.hk_kinds.specs.Orders.{state_order};
@@ -46,4 +48,11 @@ pub fn tops_cover_all()
 pub fn order_of_states()
     ensures total { IsTotalOrder state_order }
     ensures tells_apart { IsAntisymmetric state_order }
+{}
+
+/// The distinct states of a list ascend and are those of the list, and no other list is so.
+pub fn distinct_states_are_unique()
+    ensures ascend { (states : List (List Prop)) → Ascends (distinct_states states) }
+    ensures members { (states : List (List Prop)) (state : List Prop) → Contains (distinct_states states) state ↔ Contains states state }
+    ensures alone { (states others : List (List Prop)) → Ascends others → ((state : List Prop) → Contains others state ↔ Contains states state) → others ≡ distinct_states states }
 {}

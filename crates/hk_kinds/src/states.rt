@@ -9,6 +9,7 @@ ghost use Rattle.hk_kinds.specs.Tops.{top_state};
 use crate::kinds::Kind;
 use crate::properties::{Prop, covers_property, join_properties};
 use crate::shapes::Shape1;
+use crate::views::StateView;
 use smallvec::SmallVec;
 use std::alloc::{AllocError, Global};
 use std::cmp::Ordering;
@@ -53,6 +54,13 @@ impl State {
         ensures { result.now ≡ self.now }
     {
         self.properties.as_slice()
+    }
+
+    /// A view of the state, to read it.
+    pub fn view(&self) -> StateView<'_>
+        ensures { result ≡ self.now }
+    {
+        StateView::of(self.properties.as_slice())
     }
 
     /// Changes the property at this place alone.
@@ -119,7 +127,7 @@ impl State {
 }
 
 /// Joins each property with the one at its place.
-fn join_all(kinds: &[Kind], mine: &mut [Prop], theirs: &[Prop])
+pub fn join_all(kinds: &[Kind], mine: &mut [Prop], theirs: &[Prop])
     requires mine { length mine.old ≡ length kinds.now }
     requires theirs { length theirs.now ≡ length kinds.now }
     ensures { mine.new ≡ state_join kinds.now mine.old theirs.now }
