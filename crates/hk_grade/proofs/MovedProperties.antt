@@ -2,10 +2,10 @@
 use Rattle.std.proofs.Common.{ℕ, pos, zero, suc, Option, None, Some, List, ◌≤ℤ◌, slice_get}
 use Rattle.hk_kinds.specs.Covers.{PropertyCovers, covers_min, covers_max, covers_interval, covers_some, covers_all, StateCovers, covers_none, covers_more}
 use Rattle.hk_kinds.specs.Sets.{IsSubset}
+use Rattle.hk_kinds.specs.Views.{number_of_property, low_of_property, high_of_property, set_of_property}
 use Rattle.hk_kinds.specs.declared.kinds.Kind.{Kind}
 use Rattle.hk_kinds.specs.declared.properties.Prop.{Prop}
 use Rattle.hk_spec.specs.Grades.{number_sense, bits_sense}
-use Rattle.hk_spec.specs.Settings.{number_of_property, low_of_property, high_of_property, set_of_property}
 use Rattle.hk_spec.specs.declared.senses.Sense.TheVariants.{Rises, Falls}
 use Rattle.hk_grade.proofs.Moves.{itself_moves, stays, rises, falls}
 use Rattle.hk_grade.proofs.Movements.{NumMoves, SetMoves, same_number, same_set}

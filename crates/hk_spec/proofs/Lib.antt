@@ -1,4 +1,7 @@
 pub mod Lookups
+pub mod NodeScopes
+pub mod NodeSenses
+pub mod NodeValues
 pub mod PartLaws
 pub mod RunLaws
 pub mod StepLaws

@@ -4,10 +4,11 @@ use Rattle.std.proofs.lemmas.Int.{ints, clamps}
 use Rattle.hk_kinds.specs.Limits.{IsWithinLimit, clamped}
 use Rattle.hk_kinds.specs.Sets.{IsSet}
 use Rattle.hk_kinds.specs.Shapes.{HasShape, is_min, is_max, is_interval, is_some, is_all, no_kinds, one_more}
+use Rattle.hk_kinds.specs.Views.{number_of_property, low_of_property, high_of_property, set_of_property}
 use Rattle.hk_kinds.specs.declared.kinds.Kind.{Kind}
 use Rattle.hk_kinds.specs.declared.properties.Prop.{Prop}
 use Rattle.hk_spec.specs.Arguments.{AreArguments, IsCoefficient, is_number, is_set, is_list, no_arguments, more_arguments}
-use Rattle.hk_spec.specs.Settings.{number_of_property, low_of_property, high_of_property, set_of_property, number_of_argument, item_of_argument, set_of_argument}
+use Rattle.hk_spec.specs.Settings.{number_of_argument, item_of_argument, set_of_argument}
 use Rattle.hk_spec.specs.declared.arguments.Arg.{Arg}
 use Rattle.hk_spec.specs.declared.parts.ParamKind.{ParamKind}
 

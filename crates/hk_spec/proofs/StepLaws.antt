@@ -1,10 +1,11 @@
 -- A step keeps the shape of a state, and the part of a longer state that it is written over.
 use Rattle.std.proofs.Common.{◌≡◌, ℕ, ℤ, true, ◌+◌, ◌<◌, ◌≤◌, min, List, [], ◌∷◌, ◌++◌, length, map, take, drop, suc, arith, ap, sym, ◌∙◌, subst, refl, inl, inr}
 use Rattle.std.proofs.lemmas.Bool.{cases_lt}
-use Rattle.std.proofs.lemmas.List.{append-nil, length-append, length-drop, length-map, length-take, length-take-le, take_all}
+use Rattle.std.proofs.lemmas.List.{append-nil, length-append, length-drop, length-map, length-take, length-take-le}
 use Rattle.std.proofs.Math.Seq.{drop-append_seam, take-append_seam}
 use Rattle.hk_kinds.proofs.StateLaws.{length-HasShape}
 use Rattle.hk_kinds.specs.NumberLattices.{first_true, second_true}
+use Rattle.hk_kinds.specs.Parts.{part_at, with_part}
 use Rattle.hk_kinds.specs.Shapes.{IsOfKind, HasShape, is_min, is_max, is_interval, is_some, is_all, no_kinds, one_more}
 use Rattle.hk_kinds.specs.declared.kinds.Kind.{Kind}
 use Rattle.hk_kinds.specs.declared.kinds.Kind.TheVariants.{Min, Max, Interval, SomeBits, AllBits}
@@ -12,7 +13,7 @@ use Rattle.hk_kinds.specs.declared.properties.Prop.{Prop}
 use Rattle.hk_spec.specs.Scopes.{Scope}
 use Rattle.hk_spec.specs.Settings.{Setting}
 use Rattle.hk_spec.specs.Specifications.{BoundSpecification, IsBound, down_shape, up_shape, down_scope, up_scope, is_step, are_steps}
-use Rattle.hk_spec.specs.Steps.{step_value, down_step, up_step, test_passes, down_setting, up_setting, part_at, with_part, down_part, up_part}
+use Rattle.hk_spec.specs.Steps.{step_value, down_step, up_step, test_passes, down_setting, up_setting, down_part, up_part}
 use Rattle.hk_spec.specs.declared.parts.PropDecl.{PropDecl}
 use Rattle.hk_spec.specs.declared.parts.StepExpr.{StepExpr}
 use Rattle.hk_spec.specs.declared.parts.StepExpr.TheVariants as step
@@ -37,6 +38,10 @@ length-are_steps : (scope : Scope) (kinds : List Kind) (steps : List StepExpr) �
 length-are_steps scope [] [] good = refl
 length-are_steps scope (kind ∷ kinds) (e ∷ steps) good = ap (λ n. suc n) (length-are_steps scope kinds steps (second_true _ _ good))
 length-are_steps scope _ _ good = cc
+
+-- a part is told by the properties that it is one of, and by the state
+pub same_part : (first : ℕ) {declared others : List PropDecl} {state other : List Prop} → declared ≡ others → state ≡ other → part_at first (length declared) state ≡ part_at first (length others) other
+same_part first h k = cc
 
 -- a part of a shape has the room of the shape's kinds
 room-HasShape : (declared : List PropDecl) (first : ℕ) (state : List Prop) → HasShape (map (λ (p : PropDecl). p.kind) declared) (part_at first (length declared) state) → length declared ≤ length (drop first state)
@@ -71,7 +76,7 @@ drop_front first part state count long room =
     ]
 
 -- the part that was written is what was written
-part-with_part : (first : ℕ) (part state : List Prop) (count : ℕ) → length part ≡ count → count ≤ length (drop first state) → part_at first count (with_part first part state) ≡ part
+pub part-with_part : (first : ℕ) (part state : List Prop) (count : ℕ) → length part ≡ count → count ≤ length (drop first state) → part_at first count (with_part first part state) ≡ part
 part-with_part first part state count long room = ap (take count) (drop_front first part state count long room) ∙ (ap (λ n. take n (part ++ drop (first + length part) state)) (sym long) ∙ take-append_seam part (drop (first + length part) state))
 
 -- a bound specification has one down step a down property, and one up step an up property
@@ -109,39 +114,30 @@ up_part_has_shape b position value first state to h within small shape room =
     let long : length (up_step b position value state) ≡ length b.spec.up = length-map b.spec.up_step _ ∙ length-up_step b h in
     subst (HasShape (up_shape b.spec)) (sym (part-with_part first (up_step b position value state) to (length b.spec.up) long (up_room b first to room))) (up_step_has_shape b position value state h within small shape)
 
-part_whole : (count : ℕ) (state : List Prop) → length state ≡ count → part_at 0 count state ≡ state
-part_whole count state long = take_all count state (omega arith)
-
 with_whole : (part state : List Prop) → length part ≡ length state → with_part 0 part state ≡ part
 with_whole part state long = ap (λ rest. part ++ rest) (drop_past (0 + length part) state (omega arith)) ∙ append-nil part
 
--- a state of its own is the part that begins at its first place
-pub down_whole : (b : BoundSpecification) (state : List Prop) → HasShape (down_shape b.spec) state → down_part b 0 state ≡ state
-down_whole b state h = part_whole (length b.spec.down) state (length-HasShape h ∙ length-map b.spec.down _)
+-- a state of the shape has room for a step from its first place on
+pub down_room_alone : (b : BoundSpecification) (state : List Prop) → HasShape (down_shape b.spec) state → length b.spec.down ≤ length state
+down_room_alone b state h = omega (arith, length-HasShape h, length-map b.spec.down (λ (p : PropDecl). p.kind))
 
-pub up_whole : (b : BoundSpecification) (state : List Prop) → HasShape (up_shape b.spec) state → up_part b 0 state ≡ state
-up_whole b state h = part_whole (length b.spec.up) state (length-HasShape h ∙ length-map b.spec.up _)
-
-pub down_part_whole : (b : BoundSpecification) (state : List Prop) → HasShape (down_shape b.spec) state → HasShape (down_shape b.spec) (down_part b 0 state)
-down_part_whole b state h = subst (HasShape (down_shape b.spec)) (sym (down_whole b state h)) h
-
-pub up_part_whole : (b : BoundSpecification) (state : List Prop) → HasShape (up_shape b.spec) state → HasShape (up_shape b.spec) (up_part b 0 state)
-up_part_whole b state h = subst (HasShape (up_shape b.spec)) (sym (up_whole b state h)) h
+pub up_room_alone : (b : BoundSpecification) (state : List Prop) → HasShape (up_shape b.spec) state → length b.spec.up ≤ length state
+up_room_alone b state h = omega (arith, length-HasShape h, length-map b.spec.up (λ (p : PropDecl). p.kind))
 
 -- a step written over a state of its own is the step
-pub down_step_alone : (b : BoundSpecification) (position value : ℕ) (state to : List Prop) → IsBound b → HasShape (down_shape b.spec) state → HasShape (down_shape b.spec) to → with_part 0 (down_step b position value (down_part b 0 state)) to ≡ down_step b position value state
-down_step_alone b position value state to h shape room =
+pub down_step_alone : (b : BoundSpecification) (position value : ℕ) (state to : List Prop) → IsBound b → HasShape (down_shape b.spec) to → with_part 0 (down_step b position value state) to ≡ down_step b position value state
+down_step_alone b position value state to h room =
     let long : length (down_step b position value state) ≡ length to = length-map b.spec.down_step _ ∙ (length-down_step b h ∙ (sym (length-map b.spec.down _) ∙ sym (length-HasShape room))) in
-    ap (λ s. with_part 0 (down_step b position value s) to) (down_whole b state shape) ∙ with_whole (down_step b position value state) to long
+    with_whole (down_step b position value state) to long
 
-pub up_step_alone : (b : BoundSpecification) (position value : ℕ) (state to : List Prop) → IsBound b → HasShape (up_shape b.spec) state → HasShape (up_shape b.spec) to → with_part 0 (up_step b position value (up_part b 0 state)) to ≡ up_step b position value state
-up_step_alone b position value state to h shape room =
+pub up_step_alone : (b : BoundSpecification) (position value : ℕ) (state to : List Prop) → IsBound b → HasShape (up_shape b.spec) to → with_part 0 (up_step b position value state) to ≡ up_step b position value state
+up_step_alone b position value state to h room =
     let long : length (up_step b position value state) ≡ length to = length-map b.spec.up_step _ ∙ (length-up_step b h ∙ (sym (length-map b.spec.up _) ∙ sym (length-HasShape room))) in
-    ap (λ s. with_part 0 (up_step b position value s) to) (up_whole b state shape) ∙ with_whole (up_step b position value state) to long
+    with_whole (up_step b position value state) to long
 
--- a test of states of their own is the test of them as parts
-pub test_alone : (b : BoundSpecification) (position value : ℕ) (down up : List Prop) (best best' : ℤ) → HasShape (down_shape b.spec) down → HasShape (up_shape b.spec) up → best' ≡ best → test_passes b position value (down_part b 0 down) (up_part b 0 up) best' ≡ test_passes b position value down up best
-test_alone b position value down up best best' h k same =
-    ap (λ d. test_passes b position value d (up_part b 0 up) best') (down_whole b down h)
-    ∙ (ap (λ u. test_passes b position value down u best') (up_whole b up k)
-    ∙ ap (test_passes b position value down up) same)
+-- a test is told by its states and its bound on the cost
+pub same_test : (b : BoundSpecification) (position value : ℕ) (down down' up up' : List Prop) (best best' : ℤ) → down ≡ down' → up ≡ up' → best ≡ best' → test_passes b position value down up best ≡ test_passes b position value down' up' best'
+same_test b position value down down' up up' best best' d u same =
+    ap (λ state. test_passes b position value state up best) d
+    ∙ (ap (λ state. test_passes b position value down' state best) u
+    ∙ ap (test_passes b position value down' up') same)

@@ -1,12 +1,13 @@
 -- What does not name the bound on the cost has the same value whatever the bound is.
-use Rattle.std.proofs.Common.{◌≡◌, ℕ, ℤ, pos, Bool, true, false, ◌&&◌, ◌||◌, not, ◌==◌, ◌↔◌, List, ◌∷◌, ◌+ℤ◌, ◌-ℤ◌, ◌*ℤ◌, neg_ℤ, int_le, int_lt, int_eq, bit_and, count_ones, slice_get, ap, ap₂, refl, sym, ◌∙◌, subst, true≢false, IsTrue}
+use Rattle.std.proofs.Common.{◌≡◌, ℕ, ℤ, pos, Bool, true, false, ◌&&◌, ◌||◌, not, ◌==◌, ◌↔◌, List, ◌+ℤ◌, ◌-ℤ◌, ◌*ℤ◌, neg_ℤ, int_le, int_lt, int_eq, bit_and, count_ones, slice_get, ap, ap₂, refl, sym, ◌∙◌, subst, true≢false, IsTrue}
 use Rattle.std.specs.Int.{bit_at, int_max, int_min}
 use Rattle.hk_kinds.specs.Limits.{clamped}
 use Rattle.hk_kinds.specs.NumberLattices.{first_true, second_true}
+use Rattle.hk_kinds.specs.Views.{number_of_property, low_of_property, high_of_property, set_of_property}
 use Rattle.hk_kinds.specs.declared.properties.Prop.{Prop}
 use Rattle.hk_spec.specs.Runs.{Accepts, AcceptsFrom, at_end, one_more}
 use Rattle.hk_spec.specs.Scopes.{Scope, num_fits, num_fits_step, cond_fits, cond_fits_step, is_good_cond}
-use Rattle.hk_spec.specs.Settings.{Setting, state_of, number_of_property, low_of_property, high_of_property, set_of_property}
+use Rattle.hk_spec.specs.Settings.{Setting, state_of}
 use Rattle.hk_spec.specs.Specifications.{BoundSpecification, IsWithoutBest, test_scope}
 use Rattle.hk_spec.specs.Steps.{test_passes, test_setting}
 use Rattle.hk_spec.specs.Values.{num_value, num_step, set_value, set_step, cond_holds, cond_step}

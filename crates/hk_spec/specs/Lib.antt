@@ -1,5 +1,7 @@
 pub mod Arguments
 pub mod Grades
+pub mod Library
+pub mod Meanings
 pub mod Monotone
 pub mod Names
 pub mod Runs
@@ -7,5 +9,6 @@ pub mod Scopes
 pub mod Settings
 pub mod Specifications
 pub mod Steps
+pub mod Trees
 pub mod Values
 pub mod inside

@@ -9,6 +9,15 @@ abbrev pub exact_up : BoundSpecification → ℕ → List ℕ → List Prop
 exact_up b position [] = initial_values b.spec.up
 exact_up b position (value ∷ values) = up_step b position value (exact_up b (position + 1) values)
 
+-- the down state after values that begin at a position, of the one before them: a step for each value
+abbrev pub exact_down_from : BoundSpecification → ℕ → List Prop → List ℕ → List Prop
+exact_down_from b position down [] = down
+exact_down_from b position down (value ∷ values) = exact_down_from b (position + 1) (down_step b position value down) values
+
+-- the down state after all of these values, from the initial one on
+abbrev pub exact_down : BoundSpecification → List ℕ → List Prop
+exact_down b values = exact_down_from b 0 (initial_values b.spec.down) values
+
 -- from a position and the exact down state before it on, the test holds at each position of the down state before
 -- it, the value, and the up state after it
 pub data AcceptsFrom (b : BoundSpecification) (best : ℤ) : ℕ → List Prop → List ℕ → Type 0 where

@@ -1,7 +1,6 @@
 -- What an expression is computed of.
 use Rattle.std.specs.Prelude.{ℕ, ℤ, pos, Option, Some, List, slice_get, unwrap_or}
 use Rattle.hk_kinds.specs.declared.properties.Prop.{Prop}
-use Rattle.hk_kinds.specs.declared.properties.Prop.TheVariants as property
 use Rattle.hk_spec.specs.declared.arguments.Arg.{Arg}
 use Rattle.hk_spec.specs.declared.arguments.Arg.TheVariants as argument
 use Rattle.hk_spec.specs.declared.expressions.Side.{Side}
@@ -22,26 +21,6 @@ pub record Setting : Type 0 where
 abbrev pub state_of : Setting → Side → List Prop
 state_of at Down = at.down
 state_of at Up = at.up
-
--- the number of a Min or a Max property; 0 where none stands, which no specification names
-abbrev pub number_of_property : Option Prop → ℤ
-number_of_property (Some (property.Num n)) = n
-number_of_property _ = pos 0
-
--- the first number of an Interval property
-abbrev pub low_of_property : Option Prop → ℤ
-low_of_property (Some (property.Pair low high)) = low
-low_of_property _ = pos 0
-
--- the second number of an Interval property
-abbrev pub high_of_property : Option Prop → ℤ
-high_of_property (Some (property.Pair low high)) = high
-high_of_property _ = pos 0
-
--- the set of a SomeBits or an AllBits property
-abbrev pub set_of_property : Option Prop → ℕ
-set_of_property (Some (property.Bits set)) = set
-set_of_property _ = 0
 
 -- a num argument; 0 where none stands, which no specification names
 abbrev pub number_of_argument : Option Arg → ℤ

@@ -1,5 +1,6 @@
 -- The steps of states and the test of a position, also within longer states.
-use Rattle.std.specs.Prelude.{ℕ, ℤ, pos, Bool, ◌+◌, List, [], ◌++◌, length, map, take, drop}
+use Rattle.std.specs.Prelude.{ℕ, ℤ, pos, Bool, List, [], length, map}
+use Rattle.hk_kinds.specs.Parts.{part_at}
 use Rattle.hk_kinds.specs.declared.properties.Prop.{Prop}
 use Rattle.hk_kinds.specs.declared.properties.Prop.TheVariants as property
 use Rattle.hk_spec.specs.Settings.{Setting}
@@ -37,14 +38,6 @@ up_step b position value state = map (step_value (up_setting b position value st
 -- whether the test holds of a value at a position, the down state before it and the up state after it
 abbrev pub test_passes : BoundSpecification → ℕ → ℕ → List Prop → List Prop → ℤ → Bool
 test_passes b position value down up best = cond_holds (test_setting b position value down up best) b.spec.test
-
--- the part of a longer state that begins at a place and has so many properties
-abbrev pub part_at : ℕ → ℕ → List Prop → List Prop
-part_at first count state = take count (drop first state)
-
--- the longer state with another part from this place on, all else as it was
-abbrev pub with_part : ℕ → List Prop → List Prop → List Prop
-with_part first part state = take first state ++ (part ++ drop (first + length part) state)
 
 -- the down state within a longer state
 abbrev pub down_part : BoundSpecification → ℕ → List Prop → List Prop

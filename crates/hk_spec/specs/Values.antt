@@ -3,7 +3,8 @@ use Rattle.std.specs.Prelude.{ℕ, ℤ, pos, Bool, true, false, ◌&&◌, ◌||�
 use Rattle.std.specs.Int.{bit_at, int_max, int_min}
 use Rattle.std.specs.Ordering.{int_eq}
 use Rattle.hk_kinds.specs.Limits.{clamped}
-use Rattle.hk_spec.specs.Settings.{Setting, state_of, number_of_property, low_of_property, high_of_property, set_of_property, number_of_argument, item_of_argument, set_of_argument}
+use Rattle.hk_kinds.specs.Views.{number_of_property, low_of_property, high_of_property, set_of_property}
+use Rattle.hk_spec.specs.Settings.{Setting, state_of, number_of_argument, item_of_argument, set_of_argument}
 use Rattle.hk_spec.specs.declared.expressions.NumExpr.{NumExpr}
 use Rattle.hk_spec.specs.declared.expressions.NumExpr.TheOpen.{NumExpr-F}
 use Rattle.hk_spec.specs.declared.expressions.NumExpr.TheFolds.{fold-NumExpr}

@@ -1,19 +1,20 @@
 //! Specifications with arguments: their steps, their test and their exact run.
-ghost use Rattle.std.specs.Prelude.{◌≡◌, ℕ, ◌<◌, ◌↔◌, length, IsTrue, IfOk, All};
+ghost use Rattle.std.specs.Prelude.{◌≡◌, ℕ, ◌<◌, ◌≤◌, ◌↔◌, length, drop, IsTrue, IfOk, All};
+ghost use Rattle.hk_kinds.specs.Parts.{with_part};
 ghost use Rattle.hk_kinds.specs.Shapes.{HasShape};
 ghost use Rattle.hk_spec.specs.Runs.{Accepts};
-ghost use Rattle.hk_spec.specs.Specifications.{down_shape, up_shape};
-ghost use Rattle.hk_spec.specs.Steps.{down_part, up_part, down_step, up_step, test_passes, with_part};
+ghost use Rattle.hk_spec.specs.Specifications.{IsBound, down_shape, up_shape};
+ghost use Rattle.hk_spec.specs.Steps.{down_part, up_part, down_step, up_step, test_passes};
 
 use crate::arguments::Arg;
 use crate::copies::{both, copy_list};
 use crate::runs::{accepts_between, initial_state, up_states};
 use crate::settings::Setting;
 use crate::specification::Spec;
-use crate::steps::{part, write_steps};
+use crate::steps::write_steps;
 use crate::values::holds;
 use hk_base::List;
-use hk_kinds::State;
+use hk_kinds::{State, StateView};
 use std::alloc::{AllocError, Global};
 use std::marker::Model;
 
@@ -45,6 +46,14 @@ impl Model for Bound {
 }
 
 impl Bound {
+    /// A specification with arguments that fit it, for lists of `len` values.
+    pub fn new(spec: Spec, args: List<Arg>, len: u16) -> Bound
+        requires { IsBound (record { spec = spec; args = args; len = len }) }
+        ensures { result ≡ record { spec = spec; args = args; len = len } }
+    {
+        Bound { spec, args, len }
+    }
+
     /// An equal value.
     pub fn copy(&self, alloc: Global) -> Result<Bound, AllocError>
         ensures { IfOk result (λ bound. bound ≡ self.now) }
@@ -62,6 +71,86 @@ impl Bound {
         }
     }
 
+    /// Writes the down state after a value at a position, of the one before it, which is `from`, over
+    /// the properties of `to` from the place `first` on; all others stay.
+    pub fn write_down(
+        &self,
+        at: usize,
+        value: u8,
+        from: &StateView<'_>,
+        to: &mut State,
+        first: usize,
+    )
+        requires position { at < self.now.len }
+        requires value { value < 128 }
+        requires from { HasShape (down_shape self.now.spec) from.now }
+        requires room { length self.now.spec.down ≤ length (drop first to.old) }
+        ensures { to.new ≡ with_part first (down_step self.now at value from.now) to.old }
+    {
+        let spec = &self.spec;
+        let setting = Setting {
+            positions: self.len,
+            position: at as u16,
+            value,
+            best: 0,
+            args: self.args.as_slice(),
+            down: from.copy(),
+            up: StateView::empty(),
+        };
+        write_steps(spec.down_step.as_slice(), &setting, to, first);
+    }
+
+    /// Writes the up state before a value at a position, of the one after it, which is `from`, over
+    /// the properties of `to` from the place `first` on; all others stay.
+    pub fn write_up(&self, at: usize, value: u8, from: &StateView<'_>, to: &mut State, first: usize)
+        requires position { at < self.now.len }
+        requires value { value < 128 }
+        requires from { HasShape (up_shape self.now.spec) from.now }
+        requires room { length self.now.spec.up ≤ length (drop first to.old) }
+        ensures { to.new ≡ with_part first (up_step self.now at value from.now) to.old }
+    {
+        let spec = &self.spec;
+        let setting = Setting {
+            positions: self.len,
+            position: at as u16,
+            value,
+            best: 0,
+            args: self.args.as_slice(),
+            down: StateView::empty(),
+            up: from.copy(),
+        };
+        write_steps(spec.up_step.as_slice(), &setting, to, first);
+    }
+
+    /// Whether the test holds of a value at a position, the down state before it and the up state
+    /// after it.
+    pub fn passes_view(
+        &self,
+        at: usize,
+        value: u8,
+        down: &StateView<'_>,
+        up: &StateView<'_>,
+        best: i64,
+    ) -> bool
+        requires position { at < self.now.len }
+        requires value { value < 128 }
+        requires down { HasShape (down_shape self.now.spec) down.now }
+        requires up { HasShape (up_shape self.now.spec) up.now }
+        ensures { result ≡ test_passes self.now at value down.now up.now best }
+    {
+        let spec = &self.spec;
+        let setting = Setting {
+            positions: self.len,
+            position: at as u16,
+            value,
+            best,
+            args: self.args.as_slice(),
+            down: down.copy(),
+            up: up.copy(),
+        };
+        holds(&spec.test, &setting)
+    }
+
     /// Writes the down state after a value at a position, of the one before it in `from`, over the
     /// properties of `to`; all others stay.
     pub fn step_down(&self, at: usize, value: u8, from: &State, to: &mut State, first: usize)
@@ -73,16 +162,8 @@ impl Bound {
         ensures shape { HasShape (down_shape self.now.spec) (down_part self.now first to.new) }
     {
         let spec = &self.spec;
-        let setting = Setting {
-            positions: self.len,
-            position: at as u16,
-            value,
-            best: 0,
-            args: self.args.as_slice(),
-            down: part(from.as_slice(), first, spec.down.as_slice().len()),
-            up: &[],
-        };
-        write_steps(spec.down_step.as_slice(), &setting, to, first);
+        let part = from.view().part(first, spec.down.as_slice().len());
+        self.write_down(at, value, &part, to, first);
     }
 
     /// Writes the up state before a value at a position, of the one after it in `from`, over the
@@ -96,16 +177,8 @@ impl Bound {
         ensures shape { HasShape (up_shape self.now.spec) (up_part self.now first to.new) }
     {
         let spec = &self.spec;
-        let setting = Setting {
-            positions: self.len,
-            position: at as u16,
-            value,
-            best: 0,
-            args: self.args.as_slice(),
-            down: &[],
-            up: part(from.as_slice(), first, spec.up.as_slice().len()),
-        };
-        write_steps(spec.up_step.as_slice(), &setting, to, first);
+        let part = from.view().part(first, spec.up.as_slice().len());
+        self.write_up(at, value, &part, to, first);
     }
 
     /// Whether the test holds of a value at a position, the down state before it, which begins at
@@ -127,16 +200,9 @@ impl Bound {
         ensures { result ≡ test_passes self.now at value (down_part self.now first_down down.now) (up_part self.now first_up up.now) best }
     {
         let spec = &self.spec;
-        let setting = Setting {
-            positions: self.len,
-            position: at as u16,
-            value,
-            best,
-            args: self.args.as_slice(),
-            down: part(down.as_slice(), first_down, spec.down.as_slice().len()),
-            up: part(up.as_slice(), first_up, spec.up.as_slice().len()),
-        };
-        holds(&spec.test, &setting)
+        let down = down.view().part(first_down, spec.down.as_slice().len());
+        let up = up.view().part(first_up, spec.up.as_slice().len());
+        self.passes_view(at, value, &down, &up, best)
     }
 
     /// Whether the exact run accepts the values: at each position the test holds of the down state

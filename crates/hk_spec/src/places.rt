@@ -1,49 +1,8 @@
-//! What a place of an expression stands for: a property of a state, or an argument.
+//! What a place of an expression stands for among the arguments.
 ghost use Rattle.std.specs.Prelude.{◌≡◌, pos, slice_get, unwrap_or};
-ghost use Rattle.hk_spec.specs.Settings.{number_of_property, low_of_property, high_of_property, set_of_property, number_of_argument, item_of_argument, set_of_argument};
+ghost use Rattle.hk_spec.specs.Settings.{number_of_argument, item_of_argument, set_of_argument};
 
 use crate::arguments::Arg;
-use hk_kinds::Prop;
-
-/// The number of a Min or a Max property.
-pub fn number_at(state: &[Prop], place: u16) -> i64
-    ensures { result ≡ number_of_property (slice_get state.now place) }
-{
-    match state.get(usize::from(place)) {
-        Some(Prop::Num(n)) => *n,
-        _ => 0,
-    }
-}
-
-/// The first number of an Interval property.
-pub fn low_at(state: &[Prop], place: u16) -> i64
-    ensures { result ≡ low_of_property (slice_get state.now place) }
-{
-    match state.get(usize::from(place)) {
-        Some(Prop::Pair(low, _)) => *low,
-        _ => 0,
-    }
-}
-
-/// The second number of an Interval property.
-pub fn high_at(state: &[Prop], place: u16) -> i64
-    ensures { result ≡ high_of_property (slice_get state.now place) }
-{
-    match state.get(usize::from(place)) {
-        Some(Prop::Pair(_, high)) => *high,
-        _ => 0,
-    }
-}
-
-/// The set of a SomeBits or an AllBits property.
-pub fn set_at(state: &[Prop], place: u16) -> u128
-    ensures { result ≡ set_of_property (slice_get state.now place) }
-{
-    match state.get(usize::from(place)) {
-        Some(Prop::Bits(set)) => *set,
-        _ => 0,
-    }
-}
 
 /// A num argument.
 pub fn number_argument(args: &[Arg], place: u16) -> i64

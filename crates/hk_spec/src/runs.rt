@@ -5,7 +5,7 @@ ghost use Rattle.hk_kinds.specs.Shapes.{HasShape};
 ghost use Rattle.hk_spec.specs.Runs.{Accepts};
 ghost use Rattle.hk_spec.specs.inside.UpStates.{exact_ups};
 ghost use Rattle.hk_spec.specs.Specifications.{initial_values, down_shape, up_shape};
-ghost use Rattle.hk_spec.specs.Steps.{down_step, up_step, test_passes};
+ghost use Rattle.hk_spec.specs.Steps.{down_step, up_step};
 
 use crate::bindings::Bound;
 use crate::copies::both;
@@ -42,7 +42,7 @@ pub fn stepped_down(
 {
     prove!(position < usize::from(bound.len));
     let mut next = down.copy()?;
-    bound.step_down(position, value, down, &mut next, 0);
+    bound.write_down(position, value, &down.view(), &mut next, 0);
     Ok(next)
 }
 
@@ -61,26 +61,8 @@ pub fn stepped_up(
 {
     prove!(position < usize::from(bound.len));
     let mut next = up.copy()?;
-    bound.step_up(position, value, up, &mut next, 0);
+    bound.write_up(position, value, &up.view(), &mut next, 0);
     Ok(next)
-}
-
-/// Whether the test holds of a value at a position, of states of their own.
-pub fn passes_alone(
-    bound: &Bound,
-    position: usize,
-    value: u8,
-    down: &State,
-    up: &State,
-    best: i64,
-) -> bool
-    requires position { position < bound.now.len }
-    requires value { value < 128 }
-    requires down { HasShape (down_shape bound.now.spec) down.now }
-    requires up { HasShape (up_shape bound.now.spec) up.now }
-    ensures { result ≡ test_passes bound.now position value down.now up.now best }
-{
-    bound.passes(position, value, down, 0, up, 0, best)
 }
 
 /// The up states after each position, the last first.
@@ -136,7 +118,7 @@ pub fn accepts_between(
     for position in 0..values.len() {
         let Some(up) = ups.pop() else { unreachable!() };
         let value = values[position];
-        if !passes_alone(bound, position, value, &down, &up, best) {
+        if !bound.passes_view(position, value, &down.view(), &up.view(), best) {
             drop(up);
             drop(down);
             drop(ups);

@@ -4,7 +4,7 @@ ghost use Rattle.hk_spec.specs.Settings.{state_of};
 
 use crate::arguments::Arg;
 use crate::expressions::Side;
-use hk_kinds::Prop;
+use hk_kinds::StateView;
 use std::marker::Model;
 
 /// What an expression is computed of: a value at a position of a list of so many values, a bound on
@@ -16,8 +16,8 @@ pub struct Setting<'a> {
     pub positions: u16,
     pub best: i64,
     pub args: &'a [Arg],
-    pub down: &'a [Prop],
-    pub up: &'a [Prop],
+    pub down: StateView<'a>,
+    pub up: StateView<'a>,
 }
 
 impl<'a> Model for Setting<'a> {
@@ -26,19 +26,19 @@ impl<'a> Model for Setting<'a> {
 
     ghost Value = { Computed };
 
-    ghost view = { λ s. record { value = s.value; position = s.position; positions = s.positions; best = s.best; args = s.args.now; down = s.down.now; up = s.up.now } };
+    ghost view = { λ s. record { value = s.value; position = s.position; positions = s.positions; best = s.best; args = s.args.now; down = s.down; up = s.up } };
 
     ghost invariant = { λ s. s.value < 128 };
 }
 
 impl<'a> Setting<'a> {
     /// The state of one side.
-    pub fn state(&self, side: Side) -> &'a [Prop]
+    pub fn state(&self, side: Side) -> &StateView<'a>
         ensures { result.now ≡ state_of self.now side }
     {
         match side {
-            Side::Down => self.down,
-            Side::Up => self.up,
+            Side::Down => &self.down,
+            Side::Up => &self.up,
         }
     }
 }

@@ -1,6 +1,7 @@
 //! The steps of a state, written in place.
 ghost use Rattle.std.specs.Prelude.{◌≡◌, ◌≤◌, length, map, drop};
-ghost use Rattle.hk_spec.specs.Steps.{step_value, part_at, with_part};
+ghost use Rattle.hk_kinds.specs.Parts.{with_part};
+ghost use Rattle.hk_spec.specs.Steps.{step_value};
 
 use crate::parts::StepExpr;
 use crate::settings::Setting;
@@ -29,15 +30,4 @@ pub fn write_steps(steps: &[StepExpr], at: &Setting<'_>, to: &mut State, first: 
         let value = step_value(&steps[i], at);
         to.set(first + i, value);
     }
-}
-
-/// The properties of a state from a place on, as many as asked.
-pub fn part(state: &[Prop], first: usize, count: usize) -> &[Prop]
-    requires { count ≤ length (drop first state.now) }
-    ensures { result.now ≡ part_at first count state.now }
-{
-    if count == 0 {
-        return &[];
-    }
-    &state[first..first + count]
 }

@@ -5,9 +5,7 @@ ghost use Rattle.hk_kinds.specs.Limits.{clamped};
 ghost use Rattle.hk_spec.specs.Values.{num_value, set_value, cond_holds, set_without};
 
 use crate::expressions::{Cond, NumExpr, SetExpr};
-use crate::places::{
-    high_at, item_argument, low_at, number_argument, number_at, set_argument, set_at,
-};
+use crate::places::{item_argument, number_argument, set_argument};
 use crate::settings::Setting;
 use hk_kinds::clamp;
 
@@ -19,7 +17,7 @@ pub fn set_value(e: &SetExpr, at: &Setting<'_>) -> u128
         SetExpr::Lit(set) => *set,
         SetExpr::One => one_value(at.value),
         SetExpr::Param(place) => set_argument(at.args, *place),
-        SetExpr::Bits(side, place) => set_at(at.state(*side), *place),
+        SetExpr::Bits(side, place) => at.state(*side).set(usize::from(*place)),
         SetExpr::Union(a, b) => set_value(a.get(), at) | set_value(b.get(), at),
         SetExpr::Common(a, b) => set_value(a.get(), at) & set_value(b.get(), at),
         SetExpr::Without(a, b) => without(set_value(a.get(), at), set_value(b.get(), at)),
@@ -38,9 +36,9 @@ pub fn num_value(e: &NumExpr, at: &Setting<'_>) -> i64
         NumExpr::Best => at.best,
         NumExpr::Param(place) => number_argument(at.args, *place),
         NumExpr::Item(place) => item_argument(at.args, *place, at.position),
-        NumExpr::Number(side, place) => number_at(at.state(*side), *place),
-        NumExpr::Low(side, place) => low_at(at.state(*side), *place),
-        NumExpr::High(side, place) => high_at(at.state(*side), *place),
+        NumExpr::Number(side, place) => at.state(*side).number(usize::from(*place)),
+        NumExpr::Low(side, place) => at.state(*side).low(usize::from(*place)),
+        NumExpr::High(side, place) => at.state(*side).high(usize::from(*place)),
         NumExpr::Card(set) => i64::from(set_value(set.get(), at).count_ones()),
         NumExpr::Add(a, b) => sum(num_value(a.get(), at), num_value(b.get(), at)),
         NumExpr::Least(a, b) => less(num_value(a.get(), at), num_value(b.get(), at)),

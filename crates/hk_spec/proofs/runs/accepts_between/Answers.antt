@@ -7,8 +7,10 @@ use Rattle.std.proofs.Common.{to_z, of_z}
 use Rattle.hk_kinds.specs.Shapes.{HasShape}
 use Rattle.hk_spec.specs.Runs.{Accepts, AcceptsFrom, at_end}
 use Rattle.hk_spec.specs.Specifications.{IsBound, up_shape}
+use Rattle.hk_spec.specs.Steps.{test_passes}
 use Rattle.hk_spec.specs.inside.UpStates.{exact_ups}
 use Rattle.hk_spec.proofs.RunLaws.{left_is, all_left, exact_up_has_shape, taken, goes_on, refused, length-exact_ups}
+use Rattle.hk_spec.proofs.StepLaws.{same_test}
 use Rattle.hk_spec.proofs.runs.accepts_between.Goals as goal
 
 pub unreachable-requires : goal.unreachable-requires
@@ -19,24 +21,25 @@ unreachable-requires c =
     let none = c.in_default.ensures.variant.1 some in
     cc
 
-pub passes_alone-requires-clause-up : goal.passes_alone-requires-clause-up
-passes_alone-requires-clause-up c =
+pub passes_view-requires-clause-up : goal.passes_view-requires-clause-up
+passes_view-requires-clause-up c =
     let bound : IsBound c.args.bound.now = subst IsBound c.bound.view_is c.bound.invariant in
     let rest : List ℕ = drop (c.loop-position.position + 1) c.args.values.now in
     let is : drop c.loop-position.position c.args.values.now ≡ get_or c.args.values.now c.loop-position.position 0 ∷ rest = left_is c.args.values.now c.loop-position.position c.loop-position-test.true in
     let after = taken c.args.bound.now c.loop-position.position (get_or c.args.values.now c.loop-position.position 0) rest (drop c.loop-position.position c.args.values.now) c.loop-position.ups.items c.pop.new.self.items c.in-Some.up is c.loop-position.invariant.ups c.in-Some.ensures.items in
     let long : c.loop-position.position + 1 + length rest ≡ c.args.bound.now.len = omega (arith, length-drop (c.loop-position.position + 1) c.args.values.now) in
-    subst (HasShape (up_shape c.args.bound.now.spec)) (sym after.1) (exact_up_has_shape c.args.bound.now bound (c.loop-position.position + 1) rest long (all_left c.args.values.now (c.loop-position.position + 1) c.requires.values))
+    subst (HasShape (up_shape c.args.bound.now.spec)) (sym (c.view-in-loop-position.ensures ∙ after.1)) (exact_up_has_shape c.args.bound.now bound (c.loop-position.position + 1) rest long (all_left c.args.values.now (c.loop-position.position + 1) c.requires.values))
 
-pub returns-then-not-passes_alone : goal.returns-then-not-passes_alone
-returns-then-not-passes_alone c =
+pub returns-then-not-passes_view : goal.returns-then-not-passes_view
+returns-then-not-passes_view c =
     let rest : List ℕ = drop (c.loop-position.position + 1) c.args.values.now in
     let value : ℕ = get_or c.args.values.now c.loop-position.position 0 in
     let is : drop c.loop-position.position c.args.values.now ≡ value ∷ rest = left_is c.args.values.now c.loop-position.position c.loop-position-test.true in
     let after = taken c.args.bound.now c.loop-position.position value rest (drop c.loop-position.position c.args.values.now) c.loop-position.ups.items c.pop.new.self.items c.in-Some.up is c.loop-position.invariant.ups c.in-Some.ensures.items in
     let same : to_z w64 (of_z w64 c.args.best) ≡ c.args.best = to_z-of_z w64 c.args.best c.ranges.best in
-    let fails : c.passes_alone.result ≡ false = c.if-not-passes_alone.true in
-    (λ never. cc, λ run. absurd (refused c.args.bound.now (to_z w64 (of_z w64 c.args.best)) c.loop-position.position value c.loop-position.down c.in-Some.up rest (drop c.loop-position.position c.args.values.now) is after.1 (sym c.passes_alone.ensures ∙ fails) (c.loop-position.invariant.left.0 (subst (λ z. Accepts c.args.bound.now z c.args.values.now) (sym same) run))))
+    let tested : test_passes c.args.bound.now c.loop-position.position value c.loop-position.down c.in-Some.up (to_z w64 (of_z w64 c.args.best)) ≡ c.passes_view.result = sym (c.passes_view.ensures ∙ same_test c.args.bound.now c.loop-position.position value _ _ _ _ _ _ c.view.ensures c.view-in-loop-position.ensures refl) in
+    let fails : c.passes_view.result ≡ false = c.if-not-passes_view.true in
+    (λ never. cc, λ run. absurd (refused c.args.bound.now (to_z w64 (of_z w64 c.args.best)) c.loop-position.position value c.loop-position.down c.in-Some.up rest (drop c.loop-position.position c.args.values.now) is after.1 (tested ∙ fails) (c.loop-position.invariant.left.0 (subst (λ z. Accepts c.args.bound.now z c.args.values.now) (sym same) run))))
 
 pub loop-position-preserved : goal.loop-position-preserved
 loop-position-preserved c =
@@ -44,8 +47,9 @@ loop-position-preserved c =
     let value : ℕ = get_or c.args.values.now c.loop-position.position 0 in
     let is : drop c.loop-position.position c.args.values.now ≡ value ∷ rest = left_is c.args.values.now c.loop-position.position c.loop-position-test.true in
     let after = taken c.args.bound.now c.loop-position.position value rest (drop c.loop-position.position c.args.values.now) c.loop-position.ups.items c.pop.new.self.items c.in-Some.up is c.loop-position.invariant.ups c.in-Some.ensures.items in
-    let holds : c.passes_alone.result ≡ true = c.if-not-passes_alone.false in
-    let more = goes_on c.args.bound.now (to_z w64 (of_z w64 c.args.best)) c.loop-position.position value c.loop-position.down c.in-Some.up c.in-Ok.next rest (drop c.loop-position.position c.args.values.now) is after.1 c.in-Ok.ensures.step (sym c.passes_alone.ensures ∙ holds) in
+    let tested : test_passes c.args.bound.now c.loop-position.position value c.loop-position.down c.in-Some.up (to_z w64 (of_z w64 c.args.best)) ≡ c.passes_view.result = sym (c.passes_view.ensures ∙ same_test c.args.bound.now c.loop-position.position value _ _ _ _ _ _ c.view.ensures c.view-in-loop-position.ensures refl) in
+    let holds : c.passes_view.result ≡ true = c.if-not-passes_view.false in
+    let more = goes_on c.args.bound.now (to_z w64 (of_z w64 c.args.best)) c.loop-position.position value c.loop-position.down c.in-Some.up c.in-Ok.next rest (drop c.loop-position.position c.args.values.now) is after.1 c.in-Ok.ensures.step (tested ∙ holds) in
     record {
       ups = after.0;
       shape = c.in-Ok.ensures.shape;

@@ -1,5 +1,6 @@
 use Rattle.std.proofs.Common.{◌≡◌, ◌+◌, ◌++◌, length, map, take, drop}
-use Rattle.hk_spec.specs.Steps.{step_value, with_part}
+use Rattle.hk_kinds.specs.Parts.{with_part}
+use Rattle.hk_spec.specs.Steps.{step_value}
 use Rattle.hk_spec.proofs.steps.write_steps.Given as goal
 
 -- the state that is to be is what is written so far, then the steps that are left, then the rest as it was
