@@ -1,0 +1,17 @@
+pub mod Counts
+pub mod Differing
+pub mod Growing
+pub mod LagNames
+pub mod LibraryBounds
+pub mod LibraryRules
+pub mod LibrarySenses
+pub mod LibraryWithoutBest
+pub mod Ones
+pub mod Rests
+pub mod RowRules
+pub mod Specified
+pub mod TotalSteps
+pub mod Totals
+pub mod WeightedSums
+pub mod WindowRules
+pub mod Windows

@@ -1,0 +1,6 @@
+use Rattle.hk_lib.proofs.LibraryRules.{among_rules}
+use Rattle.hk_lib.proofs.Specified.{made, halves_specified}
+use Rattle.hk_lib.proofs.counting.spec.Goals as goal
+
+pub spec_of-requires : goal.spec_of-requires
+spec_of-requires c = halves_specified _ _ _ _ (made _ c.names.ensures c.in-Ok.ensures.first) (made _ c.rules.ensures c.in-Ok.ensures.second) among_rules
