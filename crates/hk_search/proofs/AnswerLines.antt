@@ -1,6 +1,6 @@
 use Rattle.std.proofs.Common.{◌≡◌, ℕ, Option, Some, None, List, [], ◌∷◌, ◌++◌, length, ◌⊎◌, inl, inr, refl, ap, sym, subst, ◌∙◌}
 use Rattle.std.proofs.lemmas.List.{nil_from_length}
-use Rattle.hk_model.specs.Problems.{PlainProblem}
+use Rattle.hk_group.specs.Problems.{PlainProblem}
 use Rattle.hk_search.specs.declared.found.Found.{Found}
 use Rattle.hk_search.specs.AnswerTexts.{answer_line, answer_lines, first_line, finding_text, IsAnswerText, infeasible, solved}
 use Rattle.hk_search.specs.Findings.{IsFinding}

@@ -3,8 +3,8 @@ use Rattle.std.proofs.lemmas.Nat.Bits.{bit_at_above}
 use Rattle.std.proofs.lemmas.List.{get_or_append_left, get_or_at, get_or_default, length_push, get_or_push}
 use Rattle.std.proofs.lemmas.Bool.{cases_lt}
 use Rattle.hk_base.specs.Sets.{Has}
-use Rattle.hk_model.specs.Problems.{PlainProblem, IsValid}
-use Rattle.hk_model.specs.Solutions.{IsSolution}
+use Rattle.hk_group.specs.Problems.{PlainProblem, IsValid}
+use Rattle.hk_group.specs.Solutions.{IsSolution}
 use Rattle.hk_search.specs.inside.Walks.{IsBegun}
 
 -- a valid problem's sets have values below 128 alone

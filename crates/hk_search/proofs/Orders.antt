@@ -1,5 +1,5 @@
 use Rattle.std.proofs.Common.{ℕ, ◌<◌, List, [], ◌∷◌, ◌++◌, refl, inl, inr}
-use Rattle.hk_model.specs.Solutions.{IsNotAfter}
+use Rattle.hk_group.specs.Solutions.{IsNotAfter}
 
 -- a list isn't after itself
 pub IsNotAfter-refl : (xs : List ℕ) → IsNotAfter xs xs

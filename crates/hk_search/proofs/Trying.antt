@@ -4,9 +4,9 @@ use Rattle.std.specs.Int.Signed.{≤ℤ_refl, clash_ℤ}
 use Rattle.std.proofs.lemmas.Int.{ints, by_lt_z}
 use Rattle.std.proofs.lemmas.List.{append-nil, nil_from_length}
 use Rattle.hk_base.specs.Lists.{IsFrontOf}
-use Rattle.hk_model.specs.declared.linear.Linear.{Linear}
-use Rattle.hk_model.specs.Problems.{PlainProblem}
-use Rattle.hk_model.specs.Solutions.{IsSolution, IsNotAfter, Holds, cost_by, cost_of}
+use Rattle.hk_group.specs.declared.linear.Linear.{Linear}
+use Rattle.hk_group.specs.Problems.{PlainProblem}
+use Rattle.hk_group.specs.Solutions.{IsSolution, IsNotAfter, Holds, cost_by, cost_of}
 use Rattle.hk_search.specs.declared.found.Found.{Found}
 use Rattle.hk_search.specs.Findings.{IsFinding}
 use Rattle.hk_search.specs.inside.Walks.{IsBegun, IsBetter, IsBestAfter, kept, improved}

@@ -5,8 +5,8 @@ use Rattle.std.proofs.lemmas.List.{length_push, take_at}
 use Rattle.hk_base.specs.Lists.{IsFrontOf}
 use Rattle.hk_base.specs.Sets.{Has}
 use Rattle.std.specs.Prelude.{slice_index}
-use Rattle.hk_model.specs.Problems.{PlainProblem, IsValid}
-use Rattle.hk_model.specs.Solutions.{IsSolution, IsNotAfter}
+use Rattle.hk_group.specs.Problems.{PlainProblem, IsValid}
+use Rattle.hk_group.specs.Solutions.{IsSolution, IsNotAfter}
 use Rattle.hk_search.specs.declared.found.Found.{Found}
 use Rattle.hk_search.specs.inside.Walks.{IsBestAfter, kept}
 use Rattle.hk_search.proofs.Begun.{below_from_Has, next_in_set}

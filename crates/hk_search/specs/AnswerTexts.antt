@@ -2,9 +2,9 @@
 use Rattle.std.specs.Prelude.{ℕ, ℤ, List, [], ◌∷◌, ◌++◌, Some, None, codes}
 use Rattle.std.specs.declared.option.Option.{Option}
 use Rattle.std.specs.Fmt.{decimal, signed_decimal}
-use Rattle.hk_model.specs.declared.linear.Linear.{Linear}
-use Rattle.hk_model.specs.Problems.{PlainProblem}
-use Rattle.hk_model.specs.Solutions.{IsAnswer, cost_of}
+use Rattle.hk_group.specs.declared.linear.Linear.{Linear}
+use Rattle.hk_group.specs.Problems.{PlainProblem}
+use Rattle.hk_group.specs.Solutions.{IsAnswer, cost_of}
 use Rattle.hk_search.specs.Findings.{HasNoSolution}
 use Rattle.hk_search.specs.declared.found.Found.{Found}
 

@@ -1,8 +1,8 @@
 -- What a finished search found.
 use Rattle.std.specs.Prelude.{◌≡◌, ℕ, List, Some, None}
 use Rattle.std.specs.declared.option.Option.{Option}
-use Rattle.hk_model.specs.Problems.{PlainProblem}
-use Rattle.hk_model.specs.Solutions.{IsSolution, IsAnswer, cost_of}
+use Rattle.hk_group.specs.Problems.{PlainProblem}
+use Rattle.hk_group.specs.Solutions.{IsSolution, IsAnswer, cost_of}
 use Rattle.hk_search.specs.declared.found.Found.{Found}
 
 -- no values solve the problem

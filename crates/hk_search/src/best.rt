@@ -6,8 +6,8 @@ ghost use Rattle.hk_search.specs.inside.Walks.{IsBegun, IsBetter, IsBestAfter};
 
 use crate::found::Found;
 use hk_base::List;
-use hk_model::limits::VALUES;
-use hk_model::{Problem, judge};
+use hk_group::limits::VALUES;
+use hk_group::{Problem, judge};
 use std::alloc::{AllocError, Global};
 
 /// Takes the values of all variables as the best, where they are a solution that is better than the

@@ -6,7 +6,7 @@ ghost use Rattle.hk_search.specs.AnswerTexts.{finding_text, first_line, optimal_
 
 use crate::found::Found;
 use hk_base::Bytes;
-use hk_model::{Linear, Problem};
+use hk_group::{Linear, Problem};
 use hk_text::push_number;
 use std::alloc::AllocError;
 

@@ -3,14 +3,14 @@
 ghost use Rattle.std.specs.Prelude.{◌≡◌, ◌<◌, ◌↔◌, IfOk, IfSome, IsTrue, OnOk};
 ghost use Rattle.hk_base.specs.Lists.{IsFrontOf};
 ghost use Rattle.hk_base.specs.Sets.{Has};
-ghost use Rattle.hk_model.specs.Solutions.{cost_of};
+ghost use Rattle.hk_group.specs.Solutions.{cost_of};
 ghost use Rattle.hk_search.specs.Findings.{IsFinding};
 ghost use Rattle.hk_search.specs.inside.Walks.{IsBegun, IsBestAfter};
 
 use crate::best::{is_settled, offer};
 use crate::found::Found;
-use hk_model::Problem;
-use hk_model::limits::VALUES;
+use hk_group::Problem;
+use hk_group::limits::VALUES;
 use std::alloc::{AllocError, Global};
 
 /// The answer of the problem: the first of its solutions of least cost, or None where it has no

@@ -1,8 +1,8 @@
 -- What a search has tried, and the best solution that it keeps.
 use Rattle.std.specs.Prelude.{◌≡◌, ℕ, ℤ, ◌<◌, ◌≤◌, ◌<ℤ◌, ◌≤ℤ◌, List, length, slice_index, Option, Some, None}
 use Rattle.hk_base.specs.Sets.{Has}
-use Rattle.hk_model.specs.Problems.{PlainProblem}
-use Rattle.hk_model.specs.Solutions.{IsSolution, IsNotAfter, cost_of}
+use Rattle.hk_group.specs.Problems.{PlainProblem}
+use Rattle.hk_group.specs.Solutions.{IsSolution, IsNotAfter, cost_of}
 use Rattle.hk_search.specs.declared.found.Found.{Found}
 
 -- the first variables have these values, each one of its set

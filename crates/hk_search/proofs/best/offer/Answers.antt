@@ -1,7 +1,7 @@
 use Rattle.std.proofs.Common.{◌≡◌, ℤ, Option, IfSome, IsSome, FitsSigned, to_z, of_z, All, refl, sym, subst, ◌∙◌, rules}
 use Rattle.std.specs.Int.{w64}
 use Rattle.std.proofs.lemmas.Int.{to_z-of_z}
-use Rattle.hk_model.specs.Solutions.{Holds, cost_of}
+use Rattle.hk_group.specs.Solutions.{Holds, cost_of}
 use Rattle.hk_search.proofs.Trying.{IsBestAfter-costless, IsBestAfter-worse, IsBestAfter-better}
 use Rattle.hk_search.proofs.best.offer.Goals as goal
 use Rattle.hk_search.proofs.best.offer.Goals.{After-is_better}

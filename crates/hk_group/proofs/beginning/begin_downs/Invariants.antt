@@ -1,0 +1,6 @@
+use Rattle.hk_group.proofs.Begun.{DownsToBegin}
+use Rattle.hk_group.proofs.beginning.begin_downs.Given as goal
+
+-- the initial values of the parts so far are written, and those of the others are left
+abbrev pub invariant-loop-k : goal.invariant-loop-k
+invariant-loop-k l = DownsToBegin l.parts l.k l.first l.to

@@ -1,0 +1,3 @@
+-- Definitions that only contracts within the crate cite.
+pub mod Joined
+pub mod Placed
