@@ -5,8 +5,8 @@ use Rattle.std.proofs.Math.Nat.{min-le_right}
 use Rattle.std.proofs.lemmas.Int.{ints, to_z-of_z}
 use Rattle.hk_text.specs.Numbers.{IsNumber}
 use Rattle.hk_lines.specs.Limits.{above_limits}
-use Rattle.hk_lines.specs.Phrases.{Values, SignedThen, then_plain, then_minus, BoundsThen, then_bounds}
-use Rattle.hk_lines.specs.inside.Pieces.{NumberThen, WordThen, RangeThen, ItemThen, then_range, then_number, TermThen}
+use Rattle.hk_lines.specs.Phrases.{Values, SignedThen, then_plain, then_minus, BoundsThen, then_bounds, RangeThen}
+use Rattle.hk_lines.specs.inside.Pieces.{NumberThen, WordThen, ItemThen, then_range, then_number, TermThen}
 use Rattle.hk_lines.specs.Shapes.{capped, capped_signed, capped_values, capped_term}
 use Rattle.hk_lines.specs.inside.Capped.{BeginsCapped, BeginsWithout, AreBounds}
 use Rattle.hk_text.proofs.TokenTexts.{same_first, same_rest}

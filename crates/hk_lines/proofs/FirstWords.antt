@@ -6,7 +6,7 @@ use Rattle.std.proofs.lemmas.Map.Made.{is_member-Decides}
 use Rattle.std.proofs.lemmas.Slice.Eq.{bytes_eq-Decides}
 use Rattle.hk_lines.specs.Later.{later_words}
 use Rattle.hk_lines.specs.Posts.{Post, SaysPost}
-use Rattle.hk_lines.specs.Statements.{Statement, Says, says_header, says_variable, says_distinct, says_total, says_objective}
+use Rattle.hk_lines.specs.Statements.{Statement, Says, says_header, says_variable, says_distinct, says_among, says_sequence, says_gcc, says_total, says_objective}
 use Rattle.hk_text.proofs.TokenTexts.{apart, apart_none, same_first}
 
 -- texts that say a statement say no post
@@ -14,6 +14,9 @@ pub statement_no_post : {texts : List (List ℕ)} {s : Statement} {p : Post} →
 statement_no_post (says_header x) post = apart 0 x post.parts refl
 statement_no_post (says_variable x word set) post = apart 0 x post.parts refl
 statement_no_post (says_distinct x words) post = apart 0 x post.parts refl
+statement_no_post (says_among x counting) post = apart 0 x post.parts refl
+statement_no_post (says_sequence x number counting) post = apart 0 x post.parts refl
+statement_no_post (says_gcc x scope rows) post = apart 0 x post.parts refl
 statement_no_post (says_total x terms bounds) post = apart 0 x post.parts refl
 statement_no_post (says_objective x terms) post = apart 0 x post.parts refl
 
@@ -33,6 +36,9 @@ pub later_says_nothing : {word : List ℕ} {more : List (List ℕ)} {s : Stateme
 later_says_nothing is (says_header x) = later_apart is x refl
 later_says_nothing is (says_variable x named set) = later_apart is x refl
 later_says_nothing is (says_distinct x words) = later_apart is x refl
+later_says_nothing is (says_among x counting) = later_apart is x refl
+later_says_nothing is (says_sequence x number counting) = later_apart is x refl
+later_says_nothing is (says_gcc x scope rows) = later_apart is x refl
 later_says_nothing is (says_total x terms bounds) = later_apart is x refl
 later_says_nothing is (says_objective x terms) = later_apart is x refl
 

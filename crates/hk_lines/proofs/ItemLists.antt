@@ -1,7 +1,7 @@
 -- The items of a set are a list of ranges and numbers up to the closing brace, and a set is a range or such items after the opening brace.
 use Rattle.std.proofs.Common.{◌≡◌, ◌<◌, ℕ, List, [], ◌∷◌, length, map, drop, refl, sym, ap, ◌∙◌, subst, codes, arith}
-use Rattle.hk_lines.specs.Phrases.{Values, ItemsThen, last_number, last_range, more_number, more_range, SetThen, set_range, set_empty, set_items}
-use Rattle.hk_lines.specs.inside.Pieces.{RangeThen, ItemThen, then_range, then_number}
+use Rattle.hk_lines.specs.Phrases.{Values, ItemsThen, last_number, last_range, more_number, more_range, SetThen, set_range, set_empty, set_items, RangeThen}
+use Rattle.hk_lines.specs.inside.Pieces.{ItemThen, then_range, then_number}
 use Rattle.hk_lines.specs.Shapes.{capped_values}
 use Rattle.hk_lines.specs.inside.Capped.{BeginsCapped, BeginsWithout}
 use Rattle.hk_text.proofs.TokenTexts.{apart, differ, same_first, same_rest, mark_no_number}

@@ -1,4 +1,8 @@
 pub mod Capping
+pub mod CountPhrases
+pub mod CountReading
+pub mod CountShaping
+pub mod CountTexts
 pub mod Domains
 pub mod Elements
 pub mod Finding

@@ -30,7 +30,7 @@ pub on_start : {X : Type 0} (Phrase : List (List ℕ) → List X → List (List 
 on_start Phrase cap whole = record { exact = []; is_capped = refl; onward = λ more rest phrase. phrase; back = λ items rest phrase. (items, phrase) }
 
 -- the answers with one more are the elements with one more, capped
-capped_more : {X : Type 0} (cap : X → X) (done exact : List X) (answer x : X) → done ≡ map cap exact → answer ≡ cap x → done ++ answer ∷ [] ≡ map cap (exact ++ x ∷ [])
+pub capped_more : {X : Type 0} (cap : X → X) (done exact : List X) (answer x : X) → done ≡ map cap exact → answer ≡ cap x → done ++ answer ∷ [] ≡ map cap (exact ++ x ∷ [])
 capped_more cap done exact answer x is one = ap (λ xs. xs ++ answer ∷ []) is ∙ ap (λ y. map cap exact ++ y ∷ []) one ∙ sym (map-append cap exact (x ∷ []))
 
 module _ {X : Type 0} {Element : List (List ℕ) → X → List (List ℕ) → Type 0} {Phrase : List (List ℕ) → List X → List (List ℕ) → Type 0} {close : List ℕ} (list : IsListOf Element Phrase close) where

@@ -1,8 +1,8 @@
 -- The phrases of a post: numbers and arguments are lists, and an argument is a number, a set in braces, or numbers in brackets.
 use Rattle.std.proofs.Common.{◌≡◌, All, ℕ, ℤ, List, [], ◌∷◌, ◌++◌, map, true, true≢false, Option, None, Some, is_some, IfSome, w64, of_z, to_z, refl, sym, ap, ◌∙◌, subst, codes}
 use Rattle.hk_text.specs.Lexemes.{IsWord}
-use Rattle.hk_lines.specs.Phrases.{Values, SignedThen, SetThen}
-use Rattle.hk_lines.specs.inside.Pieces.{WordThen, NamesThen}
+use Rattle.hk_lines.specs.Phrases.{Values, SignedThen, SetThen, NamesThen}
+use Rattle.hk_lines.specs.inside.Pieces.{WordThen}
 use Rattle.hk_lines.specs.Posts.{ArgText, Number, Set, Numbers, Post, NumbersThen, last_signed, more_signed, ArgThen, arg_number, arg_set, arg_numbers, ArgsThen, last_arg, more_arg, ArgListThen, no_args, some_args, IsWholeScope, SaysPost}
 use Rattle.hk_lines.specs.PostShapes.{capped_arg, capped_post, SayNoPost}
 use Rattle.hk_lines.specs.Shapes.{capped_signed, capped_values}
@@ -11,7 +11,7 @@ use Rattle.hk_lines.specs.Statements.{scope_end}
 use Rattle.hk_lines.proofs.Capping.{signed_in_word}
 use Rattle.hk_lines.proofs.Finding.{signed_shorter}
 use Rattle.hk_lines.proofs.Lists.{IsListOf, Opens, opens_last, opens_more}
-use Rattle.hk_text.proofs.TokenTexts.{apart, differ, same_rest}
+use Rattle.hk_text.proofs.TokenTexts.{differ, same_rest}
 use Rattle.hk_lines.proofs.Phrasing.{signed_one}
 use Rattle.hk_lines.proofs.Posting.{arg_one, arg_list_one, arg_shorter}
 use Rattle.hk_lines.proofs.ScopeNames.{scope_of_names, names_of_scope, names_one}

@@ -3,7 +3,7 @@ use Rattle.std.proofs.Common.{◌≡◌, ℕ, List, [], ◌∷◌, All, refl, sy
 use Rattle.std.specs.Prelude.{codes}
 use Rattle.std.proofs.lemmas.List.Elements.{All-nil, All-cons, All-head, All-tail}
 use Rattle.hk_text.specs.Lexemes.{IsWord}
-use Rattle.hk_lines.specs.inside.Pieces.{NamesThen, last_name, more_name}
+use Rattle.hk_lines.specs.Phrases.{NamesThen, last_name, more_name}
 use Rattle.hk_lines.specs.Statements.{scope_end}
 use Rattle.hk_text.proofs.TokenTexts.{apart, same_first, same_rest}
 

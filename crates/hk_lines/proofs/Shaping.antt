@@ -1,11 +1,11 @@
 -- What the texts of a line say, by the phrases that they begin with.
 use Rattle.std.proofs.Common.{◌≡◌, ℕ, ℤ, List, [], ◌∷◌, map, w64, of_z, to_z, refl, sym, ap, subst, ◌∙◌}
 use Rattle.std.specs.Prelude.{codes}
-use Rattle.hk_lines.specs.Phrases.{Values, Term, SetThen, TermsThen, BoundsThen}
-use Rattle.hk_lines.specs.inside.Pieces.{WordThen, NamesThen}
+use Rattle.hk_lines.specs.Phrases.{Values, Term, SetThen, TermsThen, BoundsThen, NamesThen}
+use Rattle.hk_lines.specs.inside.Pieces.{WordThen}
 use Rattle.hk_lines.specs.Shapes.{SayNothing, capped_values, capped_term, capped_statement}
 use Rattle.hk_lines.specs.inside.Capped.{BeginsCapped, AreBounds}
-use Rattle.hk_lines.specs.Statements.{Statement, Header, Variable, Distinct, Total, Objective, Says, says_header, says_variable, says_distinct, says_total, says_objective, scope_end}
+use Rattle.hk_lines.specs.Statements.{Statement, Header, Variable, Distinct, Among, Sequence, Gcc, Total, Objective, Says, says_header, says_variable, says_distinct, says_among, says_sequence, says_gcc, says_total, says_objective, scope_end}
 use Rattle.hk_lines.proofs.Capping.{signed_in_word}
 use Rattle.hk_text.proofs.TokenTexts.{apart, same_rest}
 use Rattle.hk_lines.proofs.Phrasing.{set_one, terms_one}
@@ -24,14 +24,20 @@ pub nothing_said : {texts : List (List ℕ)}
     → (texts ≡ codes "hkm" ∷ codes "1" ∷ [] → ⊥)
     → ((rest : List (List ℕ)) → texts ≡ codes "var" ∷ rest → ⊥)
     → ((rest : List (List ℕ)) → texts ≡ codes "alldifferent" ∷ rest → ⊥)
+    → ((rest : List (List ℕ)) → texts ≡ codes "among" ∷ rest → ⊥)
+    → ((rest : List (List ℕ)) → texts ≡ codes "sequence" ∷ rest → ⊥)
+    → ((rest : List (List ℕ)) → texts ≡ codes "gcc" ∷ rest → ⊥)
     → ((rest : List (List ℕ)) → texts ≡ codes "sum" ∷ rest → ⊥)
     → ((rest : List (List ℕ)) → texts ≡ codes "minimize" ∷ rest → ⊥)
     → SayNothing texts
-nothing_said header variable distinct total objective Header (says_header x) = header x
-nothing_said header variable distinct total objective (Variable n s) (says_variable x word set) = variable _ x
-nothing_said header variable distinct total objective (Distinct ns) (says_distinct x words) = distinct _ x
-nothing_said header variable distinct total objective (Total ts l m) (says_total x terms bounds) = total _ x
-nothing_said header variable distinct total objective (Objective ts) (says_objective x terms) = objective _ x
+nothing_said header variable distinct among sequence gcc total objective Header (says_header x) = header x
+nothing_said header variable distinct among sequence gcc total objective (Variable n s) (says_variable x word set) = variable _ x
+nothing_said header variable distinct among sequence gcc total objective (Distinct ns) (says_distinct x words) = distinct _ x
+nothing_said header variable distinct among sequence gcc total objective (Among c) (says_among x counting) = among _ x
+nothing_said header variable distinct among sequence gcc total objective (Sequence w c) (says_sequence x number counting) = sequence _ x
+nothing_said header variable distinct among sequence gcc total objective (Gcc ns rs) (says_gcc x scope rows) = gcc _ x
+nothing_said header variable distinct among sequence gcc total objective (Total ts l m) (says_total x terms bounds) = total _ x
+nothing_said header variable distinct among sequence gcc total objective (Objective ts) (says_objective x terms) = objective _ x
 
 -- the parts of a variable's texts after the first
 record VariableParts (texts : List (List ℕ)) : Type 0 where
@@ -45,6 +51,9 @@ variable_parts : {all texts : List (List ℕ)} {statement : Statement} → Says 
 variable_parts (says_header x) is = absurd (apart 0 x is refl)
 variable_parts (says_variable {more = more} {name = name} {set = set} x word phrase) is = record { name = name; more = more; set = set; parts = same_rest is x; phrase = phrase }
 variable_parts (says_distinct x words) is = absurd (apart 0 x is refl)
+variable_parts (says_among x counting) is = absurd (apart 0 x is refl)
+variable_parts (says_sequence x number counting) is = absurd (apart 0 x is refl)
+variable_parts (says_gcc x scope rows) is = absurd (apart 0 x is refl)
 variable_parts (says_total x terms bounds) is = absurd (apart 0 x is refl)
 variable_parts (says_objective x terms) is = absurd (apart 0 x is refl)
 
@@ -64,6 +73,9 @@ distinct_parts (says_distinct {name = name} {more = more} x words) is = record {
   parts = same_rest is x;
   phrase = names_of_scope name more refl words;
 }
+distinct_parts (says_among x counting) is = absurd (apart 0 x is refl)
+distinct_parts (says_sequence x number counting) is = absurd (apart 0 x is refl)
+distinct_parts (says_gcc x scope rows) is = absurd (apart 0 x is refl)
 distinct_parts (says_total x terms bounds) is = absurd (apart 0 x is refl)
 distinct_parts (says_objective x terms) is = absurd (apart 0 x is refl)
 
@@ -82,6 +94,9 @@ total_parts : {all texts : List (List ℕ)} {statement : Statement} → Says all
 total_parts (says_header x) is = absurd (apart 0 x is refl)
 total_parts (says_variable x word phrase) is = absurd (apart 0 x is refl)
 total_parts (says_distinct x words) is = absurd (apart 0 x is refl)
+total_parts (says_among x counting) is = absurd (apart 0 x is refl)
+total_parts (says_sequence x number counting) is = absurd (apart 0 x is refl)
+total_parts (says_gcc x scope rows) is = absurd (apart 0 x is refl)
 total_parts (says_total {more = more} {bounds = rest} {terms = terms} {least = least} {most = most} x phrase bounds) is =
     record { inner = more; rest = rest; terms = terms; least = least; most = most; parts = same_rest is x; phrase = phrase; bounds = bounds }
 total_parts (says_objective x terms) is = absurd (apart 0 x is refl)
@@ -97,6 +112,9 @@ objective_parts : {all texts : List (List ℕ)} {statement : Statement} → Says
 objective_parts (says_header x) is = absurd (apart 0 x is refl)
 objective_parts (says_variable x word phrase) is = absurd (apart 0 x is refl)
 objective_parts (says_distinct x words) is = absurd (apart 0 x is refl)
+objective_parts (says_among x counting) is = absurd (apart 0 x is refl)
+objective_parts (says_sequence x number counting) is = absurd (apart 0 x is refl)
+objective_parts (says_gcc x scope rows) is = absurd (apart 0 x is refl)
 objective_parts (says_total x terms bounds) is = absurd (apart 0 x is refl)
 objective_parts (says_objective {more = more} {terms = terms} x phrase) is = record { inner = more; terms = terms; parts = same_rest is x; phrase = phrase }
 

@@ -1,8 +1,8 @@
 -- Terms and names are lists up to the closing parenthesis.
 use Rattle.std.proofs.Common.{◌≡◌, ◌<◌, ℕ, ℤ, List, ◌∷◌, length, map, drop, refl, sym, ap, ◌∙◌, subst, codes, arith}
 use Rattle.std.proofs.lemmas.List.{map-id}
-use Rattle.hk_lines.specs.Phrases.{Term, SignedThen, then_plain, then_minus, TermsThen, last_term, more_term}
-use Rattle.hk_lines.specs.inside.Pieces.{WordThen, TermThen, NamesThen, last_name, more_name}
+use Rattle.hk_lines.specs.Phrases.{Term, SignedThen, then_plain, then_minus, TermsThen, last_term, more_term, NamesThen, last_name, more_name}
+use Rattle.hk_lines.specs.inside.Pieces.{WordThen, TermThen}
 use Rattle.hk_lines.specs.inside.Capped.{BeginsCapped}
 use Rattle.hk_text.proofs.TokenTexts.{differ, same_first, mark_no_number}
 use Rattle.hk_lines.proofs.Lists.{IsListOf, Opens, opens_last, opens_more}
@@ -46,7 +46,7 @@ names_open : {texts rest : List (List ℕ)} {xs : List (List ℕ)} → NamesThen
 names_open (last_name {name = name} is word) = opens_last {x = name} (record { parts = is; is_word = word })
 names_open (more_name {name = name} is word names) = opens_more {x = name} (record { parts = is; is_word = word }) names
 
-word_shorter : {texts after : List (List ℕ)} {x : List ℕ} → WordThen texts x after → length after < length texts
+pub word_shorter : {texts after : List (List ℕ)} {x : List ℕ} → WordThen texts x after → length after < length texts
 word_shorter {texts = texts} {after = after} {x = x} word =
     let same : length texts ≡ length (x ∷ after) = ap (λ ts. length ts) word.parts in
     omega (arith, same)

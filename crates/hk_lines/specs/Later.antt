@@ -3,7 +3,7 @@ use Rattle.std.specs.Prelude.{◌≡◌, ℕ, List, [], ◌∷◌, Contains, cod
 
 -- the words that begin statements which aren't read yet
 abbrev pub later_words : List (List ℕ)
-later_words = codes "among" ∷ codes "sequence" ∷ codes "gcc" ∷ codes "group" ∷ []
+later_words = codes "group" ∷ []
 
 -- the first of these texts is the word of a statement which isn't read yet
 pub record BeginsLater (texts : List (List ℕ)) : Type 0 where

@@ -8,7 +8,7 @@ ghost use Rattle.hk_lines.specs.Later.{BeginsLater, later_words};
 use hk_text::{Token, text_of};
 
 /// The words that begin statements which aren't read yet.
-const LATER_WORDS: [&[u8]; 4] = [b"among", b"sequence", b"gcc", b"group"];
+const LATER_WORDS: [&[u8]; 1] = [b"group"];
 
 /// Whether the tokens begin a statement that isn't read yet.
 pub fn begins_later(line: &[u8], tokens: &[Token]) -> bool

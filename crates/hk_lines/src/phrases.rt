@@ -5,8 +5,8 @@ ghost use Rattle.std.specs.Prelude.{◌≡◌, ◌≤◌, [], ℤ, pos, neg_ℤ,
 ghost use Rattle.hk_text.specs.Texts.{text_of, texts_of};
 ghost use Rattle.hk_lines.specs.Limits.{above_limits};
 ghost use Rattle.hk_lines.specs.Plain.{values_of, terms_of, plain_values, plain_term};
-ghost use Rattle.hk_lines.specs.Phrases.{SignedThen, ItemsThen, SetThen, TermsThen, BoundsThen};
-ghost use Rattle.hk_lines.specs.inside.Pieces.{NumberThen, RangeThen, ItemThen, TermThen, NamesThen};
+ghost use Rattle.hk_lines.specs.Phrases.{SignedThen, ItemsThen, SetThen, TermsThen, BoundsThen, RangeThen, NamesThen};
+ghost use Rattle.hk_lines.specs.inside.Pieces.{NumberThen, ItemThen, TermThen};
 ghost use Rattle.hk_lines.specs.Shapes.{capped, capped_signed, capped_values, capped_term};
 ghost use Rattle.hk_lines.specs.inside.Capped.{BeginsCapped, BeginsWithout, AreBounds};
 
@@ -32,7 +32,7 @@ pub struct Term<'a> {
 }
 
 /// A number without a needless zero, and the tokens after it.
-fn number_of<'t>(line: &[u8], tokens: &'t [Token]) -> Option<(u64, &'t [Token])>
+pub fn number_of<'t>(line: &[u8], tokens: &'t [Token]) -> Option<(u64, &'t [Token])>
     requires { All (IsTokenIn line.now) tokens.now }
     ensures some { IfSome result (λ found. BeginsCapped NumberThen capped (texts_of line.now tokens.now) found.0 (texts_of line.now found.1.now)) }
     ensures tokens { IfSome result (λ found. All (IsTokenIn line.now) found.1.now) }
@@ -83,7 +83,7 @@ fn negative(value: u64) -> i64
 }
 
 /// A range, and the tokens after it.
-fn range_of<'t>(line: &[u8], tokens: &'t [Token]) -> Option<(Values, &'t [Token])>
+pub fn range_of<'t>(line: &[u8], tokens: &'t [Token]) -> Option<(Values, &'t [Token])>
     requires { All (IsTokenIn line.now) tokens.now }
     ensures some { IfSome result (λ found. BeginsCapped RangeThen capped_values (texts_of line.now tokens.now) (plain_values found.0) (texts_of line.now found.1.now)) }
     ensures tokens { IfSome result (λ found. All (IsTokenIn line.now) found.1.now) }

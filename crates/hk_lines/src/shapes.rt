@@ -5,7 +5,8 @@ ghost use Rattle.std.specs.Prelude.{◌≡◌, ◌∷◌, ◌↔◌, [], All, Is
 ghost use Rattle.hk_text.specs.Texts.{texts_of};
 ghost use Rattle.hk_lines.specs.Shapes.{IsShapeOf, SayNothing};
 
-use crate::phrases::{Term, Values, bounds_of, names_of, set_of, terms_of};
+use crate::counts::{Counting, Row, counting_of, rows_of};
+use crate::phrases::{Term, Values, bounds_of, names_of, number_of, set_of, terms_of};
 use hk_base::List;
 use hk_text::{Token, after_text, has_text, word_of};
 use std::alloc::{AllocError, Global};
@@ -23,6 +24,20 @@ pub enum Shape<'a> {
     /// `alldifferent (NAME, NAME)`
     Distinct {
         names: List<&'a [u8]>,
+    },
+    /// `among (NAME, NAME) SET LEAST..MOST`
+    Among {
+        counting: Counting<'a>,
+    },
+    /// `sequence WINDOW (NAME, NAME) SET LEAST..MOST`
+    Sequence {
+        window: u64,
+        counting: Counting<'a>,
+    },
+    /// `gcc (NAME, NAME) ROW, ROW`, where a row is `VALUE : LEAST..MOST`
+    Gcc {
+        names: List<&'a [u8]>,
+        rows: List<Row<'a>>,
     },
     /// `sum (TERM, TERM) LEAST..MOST`
     Total {
@@ -54,6 +69,15 @@ pub fn shape_of<'a>(
     }
     if let Some(rest) = after_text(line, tokens, b"alldifferent") {
         return scope_of(alloc, line, rest);
+    }
+    if let Some(rest) = after_text(line, tokens, b"among") {
+        return among_of(alloc, line, rest);
+    }
+    if let Some(rest) = after_text(line, tokens, b"sequence") {
+        return sequence_of(alloc, line, rest);
+    }
+    if let Some(rest) = after_text(line, tokens, b"gcc") {
+        return gcc_of(alloc, line, rest);
     }
     if let Some(rest) = after_text(line, tokens, b"sum") {
         return total_of(alloc, line, rest);
@@ -120,6 +144,69 @@ fn scope_of<'a>(
         return Ok(None);
     }
     Ok(Some(Shape::Distinct { names }))
+}
+
+/// The shape of `among` and these tokens.
+fn among_of<'a>(
+    alloc: Global,
+    line: &'a [u8],
+    tokens: &[Token],
+) -> Result<Option<Shape<'a>>, AllocError>
+    requires { All (IsTokenIn line.now) tokens.now }
+    ensures shape { IfOk result (λ found. IfSome found (IsShapeOf (codes "among" ∷ texts_of line.now tokens.now))) }
+    ensures none { IfOk result (λ found. IsNone found → SayNothing (codes "among" ∷ texts_of line.now tokens.now)) }
+{
+    let Some(open) = after_text(line, tokens, b"(") else {
+        return Ok(None);
+    };
+    let Some(counting) = counting_of(alloc, line, open)? else {
+        return Ok(None);
+    };
+    Ok(Some(Shape::Among { counting }))
+}
+
+/// The shape of `sequence` and these tokens.
+fn sequence_of<'a>(
+    alloc: Global,
+    line: &'a [u8],
+    tokens: &[Token],
+) -> Result<Option<Shape<'a>>, AllocError>
+    requires { All (IsTokenIn line.now) tokens.now }
+    ensures shape { IfOk result (λ found. IfSome found (IsShapeOf (codes "sequence" ∷ texts_of line.now tokens.now))) }
+    ensures none { IfOk result (λ found. IsNone found → SayNothing (codes "sequence" ∷ texts_of line.now tokens.now)) }
+{
+    let Some((window, after)) = number_of(line, tokens) else {
+        return Ok(None);
+    };
+    let Some(open) = after_text(line, after, b"(") else {
+        return Ok(None);
+    };
+    let Some(counting) = counting_of(alloc, line, open)? else {
+        return Ok(None);
+    };
+    Ok(Some(Shape::Sequence { window, counting }))
+}
+
+/// The shape of `gcc` and these tokens.
+fn gcc_of<'a>(
+    alloc: Global,
+    line: &'a [u8],
+    tokens: &[Token],
+) -> Result<Option<Shape<'a>>, AllocError>
+    requires { All (IsTokenIn line.now) tokens.now }
+    ensures shape { IfOk result (λ found. IfSome found (IsShapeOf (codes "gcc" ∷ texts_of line.now tokens.now))) }
+    ensures none { IfOk result (λ found. IsNone found → SayNothing (codes "gcc" ∷ texts_of line.now tokens.now)) }
+{
+    let Some(open) = after_text(line, tokens, b"(") else {
+        return Ok(None);
+    };
+    let Some((names, rest)) = names_of(alloc, line, open)? else {
+        return Ok(None);
+    };
+    let Some(rows) = rows_of(alloc, line, rest)? else {
+        return Ok(None);
+    };
+    Ok(Some(Shape::Gcc { names, rows }))
 }
 
 /// The shape of `sum` and these tokens.

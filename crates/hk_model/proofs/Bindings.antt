@@ -8,10 +8,10 @@ use Rattle.hk_spec.specs.declared.arguments.Arg.{Arg}
 use Rattle.hk_spec.specs.declared.arguments.Arg.TheVariants as argument
 use Rattle.hk_spec.specs.declared.parts.ParamKind.{ParamKind}
 use Rattle.hk_spec.specs.declared.parts.ParamKind.TheVariants as param
-use Rattle.hk_model.specs.Limits.{greatest_coefficient}
+use Rattle.hk_group.specs.Limits.{greatest_coefficient}
 use Rattle.hk_lines.specs.Posts.{ArgText, Number, Set, Numbers}
 use Rattle.hk_model.specs.Postings.{FitsKind, FitKinds, IsSmallArg, IsArgOf, AreArgsOf}
-use Rattle.hk_model.specs.Problems.{IsWithin}
+use Rattle.hk_group.specs.Problems.{IsWithin}
 
 -- a small argument of a kind is one of that kind
 bound_argument : (count : ℕ) (kind : ParamKind) (text : ArgText) (arg : Arg) → FitsKind kind text → IsSmallArg count text → IsArgOf text arg → IsArgument count kind arg

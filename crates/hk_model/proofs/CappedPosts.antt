@@ -5,19 +5,20 @@ use Rattle.std.proofs.lemmas.List.Elements.{All-head, All-tail}
 use Rattle.hk_spec.specs.Specifications.{Specification, param_kinds}
 use Rattle.hk_spec.specs.declared.parts.ParamKind.{ParamKind}
 use Rattle.hk_spec.specs.declared.parts.ParamKind.TheVariants as param
-use Rattle.hk_model.specs.declared.faults.LineFault.{LineFault}
-use Rattle.hk_model.specs.declared.faults.LineFault.TheVariants.{Bad, NoMemory}
-use Rattle.hk_model.specs.Limits.{value_count, greatest_coefficient}
-use Rattle.hk_model.specs.declared.refusal.RefusalKind.{RefusalKind}
-use Rattle.hk_model.specs.declared.refusal.RefusalKind.TheVariants as kind
+use Rattle.hk_draft.specs.declared.faults.LineFault.{LineFault}
+use Rattle.hk_draft.specs.declared.faults.LineFault.TheVariants.{Bad, NoMemory}
+use Rattle.hk_group.specs.Limits.{value_count, greatest_coefficient}
+use Rattle.hk_draft.specs.declared.kinds.RefusalKind.{RefusalKind}
+use Rattle.hk_draft.specs.declared.kinds.RefusalKind.TheVariants as kind
 use Rattle.hk_lines.specs.Phrases.{Values}
 use Rattle.hk_lines.specs.Posts.{ArgText, Number, Set, Numbers, Post}
 use Rattle.hk_model.specs.Postings.{FitsKind, FitKinds, IsSmallArg, PostNameFault, no_spec, other_args, no_variable, PostLimitFault, many_posts, large_arg, PostScopeFault, AddsPost}
 use Rattle.hk_lines.specs.PostShapes.{capped_arg, capped_post}
 use Rattle.hk_model.specs.inside.PostFaults.{IsFaultyPost, IsPostFault}
-use Rattle.hk_model.specs.Problems.{PlainProblem, IsWithin}
+use Rattle.hk_group.specs.Problems.{PlainProblem, IsWithin}
 use Rattle.hk_lines.specs.Shapes.{capped, capped_signed, capped_values}
-use Rattle.hk_model.proofs.CappedStatements.{any_map, any_from_map, same_signed, kept_signed, kept_small, same_set}
+use Rattle.hk_draft.proofs.CappedNumbers.{same_signed, kept_signed, kept_small, same_set}
+use Rattle.hk_draft.proofs.CappedStatements.{any_map, any_from_map}
 
 -- an argument fits a kind where the one with its numbers capped does, and the other way round
 fits_whole : (kind : ParamKind) (arg : ArgText) → FitsKind kind (capped_arg arg) → FitsKind kind arg

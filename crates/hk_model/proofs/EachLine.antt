@@ -9,12 +9,12 @@ use Rattle.hk_text.specs.Texts.{texts_of}
 use Rattle.hk_text.specs.Tokens.{AreTokensOf, IsBadByte, HasTexts}
 use Rattle.hk_text.proofs.Existence.{tokens_or_bad_byte}
 use Rattle.hk_parse.specs.BlockLines.{Part}
-use Rattle.hk_model.specs.declared.refusal.RefusalKind.{RefusalKind}
-use Rattle.hk_model.specs.declared.refusal.RefusalKind.TheVariants.{Text, Later, Syntax, Name, Limit, Scope, Grade}
+use Rattle.hk_draft.specs.declared.kinds.RefusalKind.{RefusalKind}
+use Rattle.hk_draft.specs.declared.kinds.RefusalKind.TheVariants.{Text, Later, Syntax, Name, Limit, Scope, Grade}
 use Rattle.hk_model.specs.LineFaults.{IsFirstFault}
 use Rattle.hk_model.specs.Models.{Declared, IsGoodLine, good_empty, IsLaterLine}
 use Rattle.hk_lines.specs.Later.{later_words}
-use Rattle.hk_model.specs.Problems.{PlainProblem}
+use Rattle.hk_group.specs.Problems.{PlainProblem}
 use Rattle.hk_text.proofs.Deciding.{dec_test}
 use Rattle.hk_model.proofs.FaultRanks.{has_texts, later_begins, first_text, first_later, first_syntax, first_name, first_limit, first_scope, first_grade}
 use Rattle.hk_model.proofs.Meanings.{Meaning, Means, none_say_nothing, dec_means}

@@ -7,12 +7,12 @@ use Rattle.hk_parse.specs.Blocks.{IsPart}
 use Rattle.hk_text.specs.declared.tokenizer.Token.{Token}
 use Rattle.hk_text.specs.Texts.{text_of, texts_of}
 use Rattle.hk_text.specs.Tokens.{AreTokensOf, IsBadByte, HasTexts}
-use Rattle.hk_model.specs.declared.refusal.RefusalKind.{RefusalKind}
-use Rattle.hk_model.specs.declared.refusal.RefusalKind.TheVariants.{Text, Later, Syntax, Name, Limit, Scope, Grade, Unfinished}
+use Rattle.hk_draft.specs.declared.kinds.RefusalKind.{RefusalKind}
+use Rattle.hk_draft.specs.declared.kinds.RefusalKind.TheVariants.{Text, Later, Syntax, Name, Limit, Scope, Grade, Unfinished}
 use Rattle.hk_lines.specs.Later.{BeginsLater}
 use Rattle.hk_model.specs.LineFaults.{SayNothingAfter, IsNameFaultOf, IsLimitFaultOf, IsScopeFaultOf, IsFault, fault_text, fault_later, fault_syntax, fault_name, fault_limit, fault_scope, fault_grade, rank, IsFirstFault}
 use Rattle.hk_model.specs.Models.{Declared, IsGoodLine, good_empty, IsBadLine, IsLaterLine}
-use Rattle.hk_model.specs.Problems.{PlainProblem}
+use Rattle.hk_group.specs.Problems.{PlainProblem}
 use Rattle.hk_text.proofs.Reading.{same_texts, bad_byte_no_texts}
 use Rattle.hk_model.proofs.Meanings.{Meaning, Means, nothing_means, say_nothing_none, later_means_nothing}
 use Rattle.hk_model.proofs.MeantEffects.{started_problem, good_texts, good_meant}

@@ -1,41 +1,29 @@
 -- The first fault of a line, from that of the shape of its tokens; and the effect of a shape is that of the line.
 use Rattle.hk_text.specs.Tokens.{HasTexts}
 use Rattle.std.proofs.Common.{◌≡◌, ◌≢◌, ℕ, List, [], Option, None, Some, refl, sym, subst}
-use Rattle.hk_model.specs.declared.faults.LineFault.{LineFault}
-use Rattle.hk_model.specs.declared.faults.LineFault.TheVariants.{Bad, NoMemory}
-use Rattle.hk_model.specs.declared.refusal.RefusalKind.{RefusalKind}
-use Rattle.hk_model.specs.declared.refusal.RefusalKind.TheVariants.{Text, Later, Syntax, Name, Limit, Scope, Grade, Unfinished}
+use Rattle.hk_draft.specs.declared.faults.LineFault.{LineFault}
+use Rattle.hk_draft.specs.declared.faults.LineFault.TheVariants.{Bad, NoMemory}
+use Rattle.hk_draft.specs.declared.kinds.RefusalKind.{RefusalKind}
+use Rattle.hk_draft.specs.declared.kinds.RefusalKind.TheVariants.{Text, Later, Syntax, Name, Limit, Scope, Grade, Unfinished}
 use Rattle.hk_lines.specs.declared.shapes.Shape.{Shape}
 use Rattle.hk_lines.specs.Plain.{statement_of}
-use Rattle.hk_model.specs.inside.Faults.{IsFaultyStatement, IsStatementFault, IsLineFault}
+use Rattle.hk_model.specs.inside.Faults.{IsLineFault}
+use Rattle.hk_draft.specs.Faults.{IsFaultyStatement, IsStatementFault}
 use Rattle.hk_model.specs.LineFaults.{IsFirstFault}
 use Rattle.hk_model.specs.Models.{Declared, IsGoodLine, good_statement, IsLaterLine}
-use Rattle.hk_model.specs.Problems.{PlainProblem}
-use Rattle.hk_lines.specs.Shapes.{capped_statement, IsShapeOf}
+use Rattle.hk_group.specs.Problems.{PlainProblem}
+use Rattle.hk_lines.specs.Shapes.{IsShapeOf}
 use Rattle.hk_lines.specs.Statements.{Statement, Says}
-use Rattle.hk_model.specs.Declares.{MayStand, Declares}
-use Rattle.hk_model.proofs.CappedStatements.{name_whole, name_capped, limit_whole, limit_capped, scope_whole, stand_capped, declares_whole}
+use Rattle.hk_draft.specs.Declares.{MayStand, Declares}
+use Rattle.hk_draft.proofs.CappedFaults.{faulty_whole}
+use Rattle.hk_draft.proofs.CappedStatements.{declares_whole}
+use Rattle.hk_draft.proofs.Standing.{named_stands, limited_stands, unordered_stands}
 use Rattle.hk_model.proofs.FaultRanks.{first_syntax, first_name, first_limit, first_scope, none_open, fault_bad}
 use Rattle.hk_lines.proofs.FirstWords.{statement_no_post, later_says_nothing}
 use Rattle.hk_model.proofs.FirstWords.{statement_no_opening}
 use Rattle.hk_text.proofs.Reading.{same_texts}
 use Rattle.hk_lines.proofs.Grammar.{says_one, says_nothing}
 use Rattle.hk_model.proofs.Meanings.{Meaning, Means, means_statement, means_post, means_opening, means_inside, outside_inside, none_say_nothing}
-use Rattle.hk_model.proofs.MeantFaults.{named_stands, limited_stands, unordered_stands}
-
--- the first fault of a statement with its numbers capped is that of the statement
-pub faulty_whole : (before : Option PlainProblem) (s : Statement) (kind : RefusalKind) → IsFaultyStatement before (capped_statement s) kind → IsFaultyStatement before s kind
-faulty_whole before s Text fault = fault
-faulty_whole before s Later fault = fault
-faulty_whole before s Syntax none = λ stands. none (stand_capped before s stands)
-faulty_whole None s Name fault = fault
-faulty_whole (Some before) s Name fault = name_whole before s fault
-faulty_whole None s Limit fault = fault
-faulty_whole (Some before) s Limit (fault, no_name) = (limit_whole before s fault, λ named. no_name (name_capped before s named))
-faulty_whole None s Scope fault = fault
-faulty_whole (Some before) s Scope (fault, no_name, no_limit) = (scope_whole before s fault, λ named. no_name (name_capped before s named), λ limited. no_limit (limit_capped before s limited))
-faulty_whole before s Grade fault = fault
-faulty_whole before s Unfinished fault = fault
 
 -- texts that say a statement are some
 said_some : {texts : List (List ℕ)} {s : Statement} → Says texts s → texts ≢ []

@@ -3,7 +3,7 @@ use Rattle.std.proofs.Common.{ℕ, List, [], ◌∷◌, Contains, refl}
 use Rattle.hk_parse.specs.LineTexts.{ParamText, Begin, SaysLine}
 use Rattle.hk_lines.specs.Later.{later_words}
 use Rattle.hk_lines.specs.Posts.{Post, SaysPost}
-use Rattle.hk_lines.specs.Statements.{Statement, Says, says_header, says_variable, says_distinct, says_total, says_objective}
+use Rattle.hk_lines.specs.Statements.{Statement, Says, says_header, says_variable, says_distinct, says_among, says_sequence, says_gcc, says_total, says_objective}
 use Rattle.hk_text.proofs.TokenTexts.{apart, apart_none}
 use Rattle.hk_lines.proofs.FirstWords.{later_apart}
 
@@ -12,6 +12,9 @@ pub statement_no_opening : {texts : List (List ℕ)} {s : Statement} {name : Lis
 statement_no_opening (says_header x) line = apart 0 x line.texts_are refl
 statement_no_opening (says_variable x word set) line = apart 0 x line.texts_are refl
 statement_no_opening (says_distinct x words) line = apart 0 x line.texts_are refl
+statement_no_opening (says_among x counting) line = apart 0 x line.texts_are refl
+statement_no_opening (says_sequence x number counting) line = apart 0 x line.texts_are refl
+statement_no_opening (says_gcc x scope rows) line = apart 0 x line.texts_are refl
 statement_no_opening (says_total x terms bounds) line = apart 0 x line.texts_are refl
 statement_no_opening (says_objective x terms) line = apart 0 x line.texts_are refl
 

@@ -1,10 +1,10 @@
 -- Good lines, one after the other: what they declare is determined and sound.
 use Rattle.std.proofs.Common.{◌≡◌, ℕ, List, [], ◌∷◌, ◌++◌, refl, sym, subst}
 use Rattle.hk_model.specs.Models.{Declared, nothing_declared, IsGoodLine, AreGoodLines, no_line, then_line, Spells}
-use Rattle.hk_model.specs.Problems.{PlainProblem, IsValid}
+use Rattle.hk_group.specs.Problems.{PlainProblem, IsValid}
 use Rattle.hk_model.proofs.MeantEffects.{good_line_one}
 use Rattle.hk_model.proofs.Soundness.{IsSound, nothing_sound, good_line_sound}
-use Rattle.hk_model.proofs.Validity.{IsValidSoFar}
+use Rattle.hk_draft.proofs.Validity.{IsValidSoFar}
 
 -- good lines have one effect
 pub good_lines_one : {before after other : Declared} {lines : List (List ℕ)} → IsSound before → AreGoodLines before lines after → AreGoodLines before lines other → after ≡ other

@@ -7,8 +7,8 @@ use Rattle.hk_parse.specs.declared.faults.BlockFault.TheVariants as block
 use Rattle.hk_parse.specs.BlockFaults.{GoesOn, Ends, IsLineFault as IsBlockFault}
 use Rattle.hk_parse.specs.BlockLines.{Part}
 use Rattle.hk_parse.specs.Blocks.{IsPart}
-use Rattle.hk_model.specs.declared.faults.LineFault.TheVariants.{Bad}
-use Rattle.hk_model.specs.declared.refusal.RefusalKind.TheVariants.{Grade}
+use Rattle.hk_draft.specs.declared.faults.LineFault.TheVariants.{Bad}
+use Rattle.hk_draft.specs.declared.kinds.RefusalKind.TheVariants.{Grade}
 use Rattle.hk_model.specs.inside.Faults.{EndsBlock, IsLineFault, as_line_fault}
 use Rattle.hk_model.specs.LineFaults.{SayNothingAfter}
 use Rattle.hk_model.specs.Models.{Declared, IsGoodLine, good_inside, good_end, wrong_latest}

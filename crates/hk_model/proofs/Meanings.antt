@@ -8,7 +8,7 @@ use Rattle.hk_model.specs.Models.{Declared}
 use Rattle.hk_lines.specs.Later.{later_words}
 use Rattle.hk_lines.specs.Posts.{Post, SaysPost}
 use Rattle.hk_lines.specs.Statements.{Statement, Says}
-use Rattle.hk_model.specs.Declares.{MayStand}
+use Rattle.hk_draft.specs.Declares.{MayStand}
 use Rattle.hk_parse.proofs.LineReadings.{says_inside_one, opening_one}
 use Rattle.hk_parse.proofs.LineDecisions.{dec_inside, dec_opening}
 use Rattle.hk_text.proofs.Deciding.{dec_both, dec_either, dec_true}
@@ -19,7 +19,7 @@ use Rattle.hk_text.proofs.TokenTexts.{apart_none}
 use Rattle.hk_lines.proofs.Posting.{says_post_one}
 use Rattle.hk_lines.proofs.PostTexts.{dec_post}
 use Rattle.hk_lines.proofs.Sayings.{dec_says}
-use Rattle.hk_model.proofs.StatementFaults.{dec_may_stand}
+use Rattle.hk_draft.proofs.StatementFaults.{dec_may_stand}
 
 -- a statement, a post, the first line of a specification, or another line of one
 pub data Meaning : Type 0 where

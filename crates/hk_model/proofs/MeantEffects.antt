@@ -7,13 +7,13 @@ use Rattle.hk_spec.specs.declared.expressions.Cond.{Cond}
 use Rattle.hk_model.specs.Models.{Declared, Opens, IsGoodLine, good_empty, good_statement, good_post, good_opening, good_inside, good_end, wrong_latest}
 use Rattle.hk_lines.specs.Posts.{Post}
 use Rattle.hk_model.specs.Postings.{AddsPost}
-use Rattle.hk_model.specs.Problems.{PlainProblem}
+use Rattle.hk_group.specs.Problems.{PlainProblem}
 use Rattle.hk_lines.specs.Statements.{Statement}
-use Rattle.hk_model.specs.Declares.{Declares}
+use Rattle.hk_draft.specs.Declares.{Declares}
 use Rattle.hk_parse.proofs.LineEffects.{begins_one, good_after_one}
-use Rattle.hk_model.proofs.Effects.{effect_stands}
+use Rattle.hk_draft.proofs.Effects.{effect_stands}
 use Rattle.hk_text.proofs.Reading.{same_texts}
-use Rattle.hk_model.proofs.OneEffect.{declares_one}
+use Rattle.hk_draft.proofs.OneEffect.{declares_one}
 use Rattle.hk_model.proofs.Meanings.{Meaning, Stating, Posting, Opening, Inside, Means, means_statement, means_post, means_opening, means_inside, means_one, nothing_means}
 use Rattle.hk_model.proofs.PostEffects.{post_effect_one}
 use Rattle.hk_model.proofs.Soundness.{IsSound, open_part}

@@ -1,7 +1,6 @@
 -- The faults of a line, by what it means: with one the line has no effect, and without one it has an effect.
-use Rattle.std.proofs.Common.{◌≡◌, ℕ, ◌≤◌, ◌⊎◌, inl, inr, ⊎_elim, List, [], ◌∷◌, ◌++◌, length, map, Option, None, Some, IsSome, is_some, refl, sym, ap, subst, true≢false, arith}
+use Rattle.std.proofs.Common.{◌≡◌, ℕ, ◌≤◌, ◌⊎◌, inl, inr, ⊎_elim, List, [], ◌∷◌, ◌++◌, length, Option, None, Some, IsSome, is_some, refl, sym, ap, subst, true≢false, arith}
 use Rattle.std.specs.Prelude.{IfSome}
-use Rattle.std.specs.List.Sorted.{IsStrictlyIncreasing}
 use Rattle.std.proofs.Math.Decide.{dec_le, map_dec}
 use Rattle.std.proofs.lemmas.Bool.{cases_lt}
 use Rattle.hk_parse.specs.BlockLines.{Part, MayStand as MayStandIn, BeginNameFault, BeginLimitFault, LineNameFault, LineLimitFault, IsGoodAfter, whole_spec}
@@ -9,22 +8,23 @@ use Rattle.hk_parse.specs.Blocks.{IsPart}
 use Rattle.hk_parse.specs.LineTexts.{LineText, Begin, Property, Test, Step, End, IsLineText}
 use Rattle.hk_spec.specs.declared.expressions.Cond.{Cond}
 use Rattle.hk_model.specs.Limits.{most_specifications}
-use Rattle.hk_model.specs.LineFaults.{IsNameFault, declared_twice, not_declared, second_objective, IsLimitFault, long_name, large_value, turned_range, no_value, many_variables, many_differ, many_totals, large_least, large_most, large_total_coef, large_coef, IsScopeFault, IsNameFaultOf, name_of_statement, name_of_post, name_of_opening, name_inside, IsLimitFaultOf, limit_of_statement, limit_of_post, limit_of_opening, limit_inside, IsScopeFaultOf, scope_of_statement, scope_of_post, IsGradeFaultOf}
+use Rattle.hk_model.specs.LineFaults.{IsNameFaultOf, name_of_statement, name_of_post, name_of_opening, name_inside, IsLimitFaultOf, limit_of_statement, limit_of_post, limit_of_opening, limit_inside, IsScopeFaultOf, scope_of_statement, scope_of_post, IsGradeFaultOf}
+use Rattle.hk_draft.specs.Faults.{IsNameFault, IsLimitFault, IsScopeFault}
 use Rattle.hk_model.specs.Models.{Declared, wrong_latest}
 use Rattle.hk_model.specs.Postings.{PostNameFault, PostLimitFault, PostScopeFault, AddsPost, spec_of}
-use Rattle.hk_model.specs.Problems.{PlainProblem}
-use Rattle.hk_lines.specs.Statements.{Statement, Header, Variable, Distinct, Total, Objective}
-use Rattle.hk_model.specs.Declares.{MayStand, empty_problem, Declares, declares_header}
+use Rattle.hk_group.specs.Problems.{PlainProblem}
+use Rattle.hk_lines.specs.Statements.{Statement, Header, Variable, Distinct, Among, Sequence, Gcc, Total, Objective}
+use Rattle.hk_draft.specs.Declares.{MayStand, empty_problem, Declares, declares_header}
 use Rattle.hk_parse.proofs.LineEffects.{begins_exists, good_after_one, good_after_exists}
 use Rattle.hk_parse.proofs.LineDecisions.{dec_begin_name, dec_begin_limit, dec_line_name, dec_line_limit}
 use Rattle.hk_text.proofs.Deciding.{dec_either, dec_true}
-use Rattle.hk_model.proofs.Effects.{effect_of, named_no_effect, limited_no_effect, unordered_no_effect}
-use Rattle.hk_lines.proofs.Elements.{any_nil}
+use Rattle.hk_draft.proofs.Effects.{effect_of, named_no_effect, limited_no_effect, unordered_no_effect}
 use Rattle.hk_model.proofs.Meanings.{Meaning, Stating, Posting, Opening, Inside, Means, means_statement, means_post, means_opening, means_inside, means_one}
 use Rattle.hk_model.proofs.MeantEffects.{Effect, effect_statement, effect_post, effect_opening, effect_inside, effect_end, no_more}
 use Rattle.hk_model.proofs.PostEffects.{post_effect, named_no_post, limited_no_post, unordered_no_post, dec_post_name, dec_post_limit, dec_post_scope}
 use Rattle.hk_model.proofs.Soundness.{IsSound, part_of, open_part}
-use Rattle.hk_model.proofs.StatementFaults.{dec_name_fault, dec_limit_fault, dec_scope_fault}
+use Rattle.hk_draft.proofs.Standing.{named_stands, limited_stands, unordered_stands}
+use Rattle.hk_draft.proofs.StatementFaults.{dec_name_fault, dec_limit_fault, dec_scope_fault}
 
 -- the faults of a name, of a limit, of a scope and of a grade, by what a line means
 abbrev pub NameFaultIn : Declared → PlainProblem → Meaning → Type 0
@@ -50,43 +50,6 @@ GradeFaultIn (Stating s) = ⊥
 GradeFaultIn (Posting post) = ⊥
 GradeFaultIn (Opening name params) = ⊥
 GradeFaultIn (Inside part text) = (after : Part) × IsGoodAfter part text after × IsSome (wrong_latest after)
-
--- a statement with a fault of a name may stand after the header
-pub named_stands : {problem : PlainProblem} {s : Statement} → IsNameFault problem s → MayStand (Some problem) s
-named_stands (declared_twice x) = tt
-named_stands (not_declared {statement = Header} x) = absurd (any_nil _ x)
-named_stands (not_declared {statement = Variable name set} x) = tt
-named_stands (not_declared {statement = Distinct names} x) = tt
-named_stands (not_declared {statement = Total terms least most} x) = tt
-named_stands (not_declared {statement = Objective terms} x) = tt
-named_stands (second_objective x) = tt
-
--- so may one with a fault of a limit
-pub limited_stands : {problem : PlainProblem} {s : Statement} → IsLimitFault problem s → MayStand (Some problem) s
-limited_stands (long_name x) = tt
-limited_stands (large_value x) = tt
-limited_stands (turned_range x) = tt
-limited_stands no_value = tt
-limited_stands (many_variables x) = tt
-limited_stands (many_differ x) = tt
-limited_stands (many_totals x) = tt
-limited_stands (large_least x) = tt
-limited_stands (large_most x) = tt
-limited_stands (large_total_coef x) = tt
-limited_stands (large_coef x) = tt
-
--- no places stand in order
-no_places_rise : (scope : List ℕ) → [] ≡ map Some scope → (IsStrictlyIncreasing scope → ⊥) → ⊥
-no_places_rise [] same falls = falls (λ k below. absurd (omega arith))
-no_places_rise (place ∷ scope) same falls = cc
-
--- so may one with a fault of its scope
-pub unordered_stands : {problem : PlainProblem} (s : Statement) → IsScopeFault problem s → MayStand (Some problem) s
-unordered_stands Header x = absurd (no_places_rise x.scope x.places x.falls)
-unordered_stands (Variable name set) x = tt
-unordered_stands (Distinct names) x = tt
-unordered_stands (Total terms least most) x = tt
-unordered_stands (Objective terms) x = tt
 
 -- the meaning of a line with a fault
 pub record FaultMeant (before : Declared) (texts : List (List ℕ)) (Fault : Meaning → Type 0) : Type 0 where
@@ -277,6 +240,9 @@ header_effect {before = before} sound start (means_statement {statement = s} out
     by Header stands = (record before { problem = Some empty_problem }, effect_statement (subst (λ p. Declares p Header (Some empty_problem)) (sym start) declares_header))
     by (Variable name set) stands = absurd stands
     by (Distinct names) stands = absurd stands
+    by (Among counting) stands = absurd stands
+    by (Sequence window counting) stands = absurd stands
+    by (Gcc names rows) stands = absurd stands
     by (Total terms least most) stands = absurd stands
     by (Objective terms) stands = absurd stands
 header_effect {before = before} sound start (means_post out some says) = absurd (none_some before.problem start some)

@@ -10,13 +10,13 @@ use Rattle.hk_parse.specs.BlockLines.{Part, BeginNameFault, BeginLimitFault}
 use Rattle.hk_parse.specs.LineTexts.{ParamText, Begin, SaysLine, param_texts}
 use Rattle.hk_parse.specs.SetTexts.{in_parentheses}
 use Rattle.hk_spec.specs.Specifications.{Specification}
-use Rattle.hk_model.specs.declared.faults.LineFault.TheVariants.{Bad}
+use Rattle.hk_draft.specs.declared.faults.LineFault.TheVariants.{Bad}
 use Rattle.hk_model.specs.Limits.{most_specifications}
-use Rattle.hk_model.specs.declared.refusal.RefusalKind.TheVariants.{Syntax, Name, Limit}
+use Rattle.hk_draft.specs.declared.kinds.RefusalKind.TheVariants.{Syntax, Name, Limit}
 use Rattle.hk_model.specs.inside.Faults.{IsLineFault, as_begin_fault}
 use Rattle.hk_model.specs.Models.{Declared, IsGoodLine, good_opening, IsLaterLine}
 use Rattle.hk_model.specs.Postings.{spec_of}
-use Rattle.hk_lines.specs.Statements.{Statement, Says, says_header, says_variable, says_distinct, says_total, says_objective}
+use Rattle.hk_lines.specs.Statements.{Statement, Says, says_header, says_variable, says_distinct, says_among, says_sequence, says_gcc, says_total, says_objective}
 use Rattle.hk_model.proofs.FaultRanks.{first_syntax, first_name, first_limit, none_open, fault_bad}
 use Rattle.hk_lines.proofs.FirstWords.{later_apart}
 use Rattle.hk_text.proofs.Reading.{same_texts}
@@ -29,6 +29,9 @@ spec_no_statement : {texts rest : List (List ℕ)} {s : Statement} → texts ≡
 spec_no_statement is (says_header x) = apart 0 is x refl
 spec_no_statement is (says_variable x word set) = apart 0 is x refl
 spec_no_statement is (says_distinct x words) = apart 0 is x refl
+spec_no_statement is (says_among x counting) = apart 0 is x refl
+spec_no_statement is (says_sequence x number counting) = apart 0 is x refl
+spec_no_statement is (says_gcc x scope rows) = apart 0 is x refl
 spec_no_statement is (says_total x terms bounds) = apart 0 is x refl
 spec_no_statement is (says_objective x terms) = apart 0 is x refl
 

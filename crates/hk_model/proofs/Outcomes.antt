@@ -3,11 +3,11 @@ use Rattle.std.proofs.Common.{◌≡◌, ℕ, ◌+◌, List, [], ◌∷◌, ◌+
 use Rattle.std.proofs.lemmas.List.{append-nil}
 use Rattle.hk_text.specs.Lines.{lines}
 use Rattle.hk_parse.specs.BlockLines.{Part}
-use Rattle.hk_model.specs.declared.refusal.RefusalKind.{RefusalKind}
-use Rattle.hk_model.specs.declared.refusal.RefusalKind.TheVariants.{Unfinished}
+use Rattle.hk_draft.specs.declared.kinds.RefusalKind.{RefusalKind}
+use Rattle.hk_draft.specs.declared.kinds.RefusalKind.TheVariants.{Unfinished}
 use Rattle.hk_model.specs.LineFaults.{IsFirstFault}
 use Rattle.hk_model.specs.Models.{Declared, nothing_declared, IsGoodLine, AreGoodLines, no_line, then_line, Spells, IsBadLine, IsFirstBadLine}
-use Rattle.hk_model.specs.Problems.{PlainProblem}
+use Rattle.hk_group.specs.Problems.{PlainProblem}
 use Rattle.hk_model.specs.Refused.{IsRefusal, refused_line, no_end}
 use Rattle.hk_model.proofs.EachLine.{Judged, found_good, found_fault, judged}
 use Rattle.hk_model.proofs.FaultRanks.{first_fault_one, fault_bad}

@@ -4,13 +4,13 @@ use Rattle.std.proofs.Common.{◌≡◌, ◌≢◌, ℕ, List, [], ◌∷◌, Op
 use Rattle.std.specs.Prelude.{codes}
 use Rattle.hk_parse.specs.LineTexts.{param_texts}
 use Rattle.hk_parse.specs.SetTexts.{in_parentheses}
-use Rattle.hk_model.specs.declared.faults.LineFault.{LineFault}
-use Rattle.hk_model.specs.declared.faults.LineFault.TheVariants.{Bad, NoMemory}
+use Rattle.hk_draft.specs.declared.faults.LineFault.{LineFault}
+use Rattle.hk_draft.specs.declared.faults.LineFault.TheVariants.{Bad, NoMemory}
 use Rattle.hk_lines.specs.declared.posts.PostShape.{PostShape}
-use Rattle.hk_model.specs.declared.refusal.RefusalKind.{RefusalKind}
+use Rattle.hk_draft.specs.declared.kinds.RefusalKind.{RefusalKind}
 use Rattle.hk_lines.specs.declared.shapes.Shape.{Shape}
 use Rattle.hk_lines.specs.Plain.{statement_of}
-use Rattle.hk_model.specs.declared.refusal.RefusalKind.TheVariants.{Text, Later, Syntax, Name, Limit, Scope, Grade, Unfinished}
+use Rattle.hk_draft.specs.declared.kinds.RefusalKind.TheVariants.{Text, Later, Syntax, Name, Limit, Scope, Grade, Unfinished}
 use Rattle.hk_model.specs.inside.Faults.{IsLineFault, Posts, IsPostFaultAfter}
 use Rattle.hk_model.specs.LineFaults.{IsFirstFault}
 use Rattle.hk_model.specs.Models.{Declared, IsGoodLine, good_post, IsLaterLine}
@@ -18,10 +18,10 @@ use Rattle.hk_lines.specs.Posts.{Post, SaysPost}
 use Rattle.hk_model.specs.Postings.{AddsPost}
 use Rattle.hk_lines.specs.PostShapes.{plain_post, IsPostShapeOf}
 use Rattle.hk_model.specs.inside.PostFaults.{IsFaultyPost, IsPostFault}
-use Rattle.hk_model.specs.Problems.{PlainProblem}
+use Rattle.hk_group.specs.Problems.{PlainProblem}
 use Rattle.hk_lines.specs.Shapes.{IsShapeOf, SayNothing}
-use Rattle.hk_lines.specs.Statements.{Statement, Says, says_header, says_variable, says_distinct, says_total, says_objective}
-use Rattle.hk_model.specs.Declares.{Declares}
+use Rattle.hk_lines.specs.Statements.{Statement, Says, says_header, says_variable, says_distinct, says_among, says_sequence, says_gcc, says_total, says_objective}
+use Rattle.hk_draft.specs.Declares.{Declares}
 use Rattle.hk_model.proofs.CappedPosts.{post_fault_whole, adds_post_whole}
 use Rattle.hk_model.proofs.FaultRanks.{first_syntax, first_name, first_limit, first_scope, none_open, fault_bad}
 use Rattle.hk_model.proofs.FirstFaults.{effect_of_statement}
@@ -54,6 +54,9 @@ post_no_statement : {rest : List (List ℕ)} {s : Statement} → Says (codes "po
 post_no_statement (says_header x) = apart 0 refl x refl
 post_no_statement (says_variable x word set) = apart 0 refl x refl
 post_no_statement (says_distinct x words) = apart 0 refl x refl
+post_no_statement (says_among x counting) = apart 0 refl x refl
+post_no_statement (says_sequence x number counting) = apart 0 refl x refl
+post_no_statement (says_gcc x scope rows) = apart 0 refl x refl
 post_no_statement (says_total x terms bounds) = apart 0 refl x refl
 post_no_statement (says_objective x terms) = apart 0 refl x refl
 

@@ -11,21 +11,22 @@ use Rattle.hk_spec.specs.declared.arguments.Arg.TheVariants as argument
 use Rattle.hk_spec.specs.declared.parts.ParamKind.{ParamKind}
 use Rattle.hk_spec.specs.declared.parts.ParamKind.TheVariants as param
 use Rattle.hk_spec.specs.Specifications.{Specification, param_kinds}
-use Rattle.hk_model.specs.Limits.{most_constraints, value_count, greatest_coefficient}
-use Rattle.hk_model.specs.declared.problem.Constraint.{Constraint}
-use Rattle.hk_model.specs.declared.problem.Constraint.TheVariants.{User}
-use Rattle.hk_model.specs.LineFaults.{IsScopeFault}
+use Rattle.hk_group.specs.Limits.{most_constraints, value_count, greatest_coefficient}
+use Rattle.hk_group.specs.declared.problem.Constraint.{Constraint}
+use Rattle.hk_group.specs.declared.problem.Constraint.TheVariants.{User}
+use Rattle.hk_draft.specs.Faults.{IsScopeFault}
 use Rattle.hk_lines.specs.Posts.{ArgText, Number, Set, Numbers, Post}
 use Rattle.hk_model.specs.Postings.{spec_of, FitsKind, FitKinds, IsSmallArg, IsArgOf, AreArgsOf, PostNameFault, no_spec, other_args, no_variable, PostLimitFault, many_posts, large_arg, PostScopeFault, AddsPost}
-use Rattle.hk_model.specs.Problems.{PlainProblem, IsWithin}
+use Rattle.hk_group.specs.Problems.{PlainProblem, IsWithin}
 use Rattle.hk_lines.specs.Statements.{Distinct}
-use Rattle.hk_model.specs.Declares.{place_of}
+use Rattle.hk_draft.specs.Declares.{place_of}
 use Rattle.hk_text.proofs.Deciding.{dec_both, dec_either, dec_not, dec_all, dec_rising, dec_test, dec_any}
 use Rattle.hk_lines.proofs.Domains.{domain_of, same_domains}
-use Rattle.hk_model.proofs.Effects.{dec_coefficient, dec_within_limit, places_of, no_places_of}
+use Rattle.hk_draft.proofs.CountDecisions.{since}
+use Rattle.hk_draft.proofs.Effects.{dec_coefficient, dec_within_limit, places_of, no_places_of}
 use Rattle.hk_lines.proofs.Elements.{each_not_some, each_from_none}
-use Rattle.hk_model.proofs.OneEffect.{same_places, same_scopes, same_added_constraint}
-use Rattle.hk_model.proofs.StatementFaults.{dec_undeclared, dec_scope_fault}
+use Rattle.hk_draft.proofs.OneEffect.{same_places, same_scopes, same_added_constraint}
+use Rattle.hk_draft.proofs.StatementFaults.{dec_undeclared, dec_scope_fault}
 
 -- whether an argument has the form that a kind asks
 dec_fits_kind : (kind : ParamKind) (arg : ArgText) → Dec (FitsKind kind arg)
@@ -53,11 +54,6 @@ dec_small_arg count (Set set) = dec_both
     (dec_all (λ values. values.first ≤ values.last) (λ values. dec_le values.first values.last) set)
     (dec_all (λ values. values.last < value_count) (λ values. dec_lt values.last value_count) set)
 dec_small_arg count (Numbers numbers) = dec_both (dec_all (IsWithin greatest_coefficient) dec_coefficient numbers) (dec_test _ (Decides-eqb (length numbers) count))
-
--- what is decided and not refuted holds
-since : {A : Type 0} → Dec A → ((A → ⊥) → ⊥) → A
-since (yes a) none = a
-since (no a) none = absurd (none a)
 
 -- each small argument is one, and so are small arguments
 arg_of : (count : ℕ) (text : ArgText) → IsSmallArg count text → (arg : Arg) × IsArgOf text arg

@@ -4,14 +4,14 @@ use Rattle.std.specs.Prelude.{All, Any}
 use Rattle.std.proofs.lemmas.List.Elements.{All-nil, All-cons}
 use Rattle.std.proofs.lemmas.List.Quantifiers.{position-Some}
 use Rattle.hk_spec.specs.Specifications.{Specification, BoundSpecification, param_kinds}
-use Rattle.hk_model.specs.Limits.{most_constraints}
-use Rattle.hk_model.specs.declared.problem.Constraint.TheVariants.{User}
+use Rattle.hk_group.specs.Limits.{most_constraints}
+use Rattle.hk_group.specs.declared.problem.Constraint.TheVariants.{User}
 use Rattle.hk_lines.specs.Posts.{Post}
 use Rattle.hk_model.specs.Postings.{spec_of, FitKinds, IsSmallArg, AreArgsOf, PostNameFault, no_spec, other_args, no_variable, PostLimitFault, many_posts, large_arg, AddsPost}
 use Rattle.hk_model.specs.inside.PostFaults.{HasNoFit}
-use Rattle.hk_model.specs.Problems.{PlainProblem}
-use Rattle.hk_model.specs.Declares.{place_of, AreNamesOf}
-use Rattle.hk_model.proofs.Effects.{no_places_of}
+use Rattle.hk_group.specs.Problems.{PlainProblem}
+use Rattle.hk_draft.specs.Declares.{place_of, AreNamesOf}
+use Rattle.hk_draft.proofs.Effects.{no_places_of}
 use Rattle.hk_lines.proofs.Elements.{each_not_some}
 
 -- the place of a name is that of a variable

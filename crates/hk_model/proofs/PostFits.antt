@@ -1,25 +1,20 @@
 -- A post's specification is found, its arguments fit the parameters and their limits, and it is bound to them.
-use Rattle.std.proofs.Common.{◌≡◌, ◌<◌, ◌≤◌, ◌+◌, ◌↔◌, ℕ, suc, Bool, true, false, cond, List, [], ◌∷◌, ◌++◌, length, map, drop, take, slice_index_or, get_or, Some, find, IsTrue, refl, sym, ap, subst, ◌∙◌, arith}
+use Rattle.std.proofs.Common.{◌≡◌, ◌<◌, ◌+◌, ◌↔◌, ℕ, suc, Bool, true, false, cond, List, [], ◌∷◌, ◌++◌, length, map, drop, take, slice_index_or, get_or, Some, find, IsTrue, refl, sym, ap, subst, ◌∙◌}
 use Rattle.std.specs.Prelude.{All, Any}
-use Rattle.std.specs.List.Sorted.{IsStrictlyIncreasing}
 use Rattle.std.proofs.lemmas.List.{drop_more, take_more, map-append, length-map, get_or-map}
-use Rattle.std.proofs.lemmas.List.Elements.{All-nil, All-cons, All-head, All-tail, All-map, All-weaker}
 use Rattle.hk_spec.specs.declared.arguments.Arg.{Arg}
 use Rattle.hk_spec.specs.declared.parts.Param.{Param}
 use Rattle.hk_spec.specs.declared.parts.ParamKind.{ParamKind}
-use Rattle.hk_model.specs.Limits.{value_count}
 use Rattle.hk_lines.specs.declared.phrases.Values.{Values as ReadValues}
 use Rattle.hk_lines.specs.declared.posts.PostArg.{PostArg}
 use Rattle.hk_lines.specs.declared.posts.PostArg.TheVariants as read
-use Rattle.hk_lines.specs.Plain.{values_of, plain_values}
-use Rattle.hk_lines.specs.Phrases.{Values}
 use Rattle.hk_lines.specs.Posts.{ArgText}
 use Rattle.hk_model.specs.Postings.{FitKinds, IsSmallArg, IsArgOf, AreArgsOf}
 use Rattle.hk_lines.specs.PostShapes.{plain_arg, args_of}
 use Rattle.hk_text.proofs.Deciding.{dec_not, dec_any}
 use Rattle.hk_lines.proofs.Elements.{each_from_none}
 use Rattle.hk_model.proofs.PostEffects.{dec_small_arg}
-use Rattle.hk_model.proofs.SumSizes.{scope_short}
+use Rattle.hk_draft.proofs.SmallSets.{AreSmallValues, small_items, items_small}
 
 module _ {X : Type 0} (p : X → Bool) (xs : List X) (i : ℕ) (x : X) (within : i < length xs) (here : x ≡ slice_index_or xs i x) where
   left_is : drop i xs ≡ x ∷ drop (i + 1) xs
@@ -32,23 +27,6 @@ module _ {X : Type 0} (p : X → Bool) (xs : List X) (i : ℕ) (x : X) (within :
   -- and else one of those after it
   pub found_later : p x ≡ false → find p (drop i xs) ≡ find p (drop (i + 1) xs)
   found_later fails = ap (find p) left_is ∙ ap (λ b. cond b (Some x) (find p (drop (i + 1) xs))) fails
-
--- no range of a set is turned, and no value passes the limit
-abbrev pub AreSmallValues : List ReadValues → Type 0
-AreSmallValues set = All (λ values. (values.first ≤ values.last) × (values.last < value_count)) set
-
--- the values of a set as they were read are small where the items are
-small_items : (set : List ReadValues) → AreSmallValues set → All (λ values. values.first ≤ values.last) (values_of set) × All (λ values. values.last < value_count) (values_of set)
-small_items set all = (
-  All-map (λ (values : Values). values.first ≤ values.last) plain_values set (All-weaker (λ values. (values.first ≤ values.last) × (values.last < value_count)) (λ values. values.first ≤ values.last) (λ values both. both.0) set all),
-  All-map (λ (values : Values). values.last < value_count) plain_values set (All-weaker (λ values. (values.first ≤ values.last) × (values.last < value_count)) (λ values. values.last < value_count) (λ values both. both.1) set all),
-)
-
-items_small : (set : List ReadValues) → All (λ values. values.first ≤ values.last) (values_of set) → All (λ values. values.last < value_count) (values_of set) → AreSmallValues set
-items_small [] ordered within = All-nil (λ values. (values.first ≤ values.last) × (values.last < value_count))
-items_small (values ∷ set) ordered within = All-cons (λ values. (values.first ≤ values.last) × (values.last < value_count)) values set
-    (All-head (λ values. values.first ≤ values.last) (plain_values values) (values_of set) ordered, All-head (λ values. values.last < value_count) (plain_values values) (values_of set) within)
-    (items_small set (All-tail (λ values. values.first ≤ values.last) (plain_values values) (values_of set) ordered) (All-tail (λ values. values.last < value_count) (plain_values values) (values_of set) within))
 
 -- a set is a small argument where its values are small
 pub small_set_arg : (count : ℕ) (arg : PostArg) (set items : List ReadValues) (small : Bool) → arg ≡ read.Set set → items ≡ set → (IsTrue small ↔ AreSmallValues items) → IsTrue small ↔ IsSmallArg count (plain_arg arg)
@@ -85,11 +63,6 @@ pub bound_more : (args : List PostArg) (i : ℕ) (d : PostArg) (bound longer : L
 bound_more args i d bound longer arg within are is pushed =
     subst (λ texts. AreArgsOf texts longer) (sym (args_take args i d within))
     (subst (AreArgsOf (args_of (take i args) ++ plain_arg (get_or args i d) ∷ [])) (sym pushed) (args_push (args_of (take i args)) (plain_arg (get_or args i d)) bound arg are is))
-
--- places that rise are no more than there are variables
-pub rising_short : (variables : ℕ) (scope : List ℕ) → IsStrictlyIncreasing scope → All (λ place. place < variables) scope → length scope ≤ variables
-rising_short variables [] rising declared = omega arith
-rising_short variables (first ∷ more) rising declared = scope_short variables (first ∷ more) (record { some = omega arith; rising = rising; declared = declared })
 
 -- the kinds of parameters
 abbrev pub kinds_of : List Param → List ParamKind

@@ -2,16 +2,16 @@
 use Rattle.std.proofs.Common.{◌≡◌, ℕ, ◌+◌, ◌<◌, ◌≤◌, ◌⊎◌, List, [], ◌∷◌, ◌++◌, length, None, Some, IsSome, ap, sym, ◌∙◌, subst, arith, append_assoc, length-append}
 use Rattle.std.proofs.lemmas.List.{append-nil, nil_from_length}
 use Rattle.hk_text.specs.Lines.{lines}
-use Rattle.hk_model.specs.declared.faults.LineFault.{LineFault}
-use Rattle.hk_model.specs.declared.faults.LineFault.TheVariants.{Bad, NoMemory}
+use Rattle.hk_draft.specs.declared.faults.LineFault.{LineFault}
+use Rattle.hk_draft.specs.declared.faults.LineFault.TheVariants.{Bad, NoMemory}
 use Rattle.hk_model.specs.declared.refusal.ModelError.{ModelError}
-use Rattle.hk_model.specs.declared.refusal.RefusalKind.TheVariants.{Unfinished}
+use Rattle.hk_draft.specs.declared.kinds.RefusalKind.TheVariants.{Unfinished}
 use Rattle.hk_model.specs.Models.{Declared, nothing_declared, IsGoodLine, AreGoodLines, Spells, IsBadLine, IsFirstBadLine}
-use Rattle.hk_model.specs.Problems.{PlainProblem, IsValid}
+use Rattle.hk_group.specs.Problems.{PlainProblem, IsValid}
 use Rattle.hk_model.specs.inside.Faults.{IsLineFault, IsErrorAt}
 use Rattle.hk_model.specs.Refused.{IsRefusal, refused_line, no_end, IsErrorOf}
 use Rattle.hk_model.proofs.GoodLines.{good_lines_more, good_lines_sound}
-use Rattle.hk_model.proofs.Validity.{IsValidSoFar}
+use Rattle.hk_draft.proofs.Validity.{IsValidSoFar}
 
 -- the lines before the rest are good, they declare this, and the line of this number is the next
 pub record Reached (bytes : List ℕ) (declared : Declared) (rest : List ℕ) (number : ℕ) : Type 0 where

@@ -12,15 +12,15 @@ use Rattle.hk_spec.specs.declared.arguments.Arg.{Arg}
 use Rattle.hk_spec.specs.declared.arguments.Arg.TheVariants as argument
 use Rattle.hk_spec.specs.declared.parts.ParamKind.{ParamKind}
 use Rattle.hk_spec.specs.declared.parts.ParamKind.TheVariants as param
-use Rattle.hk_model.specs.Limits.{greatest_coefficient}
+use Rattle.hk_group.specs.Limits.{greatest_coefficient}
 use Rattle.hk_model.specs.Models.{Declared, nothing_declared, IsGoodLine, good_empty, good_statement, good_post, good_opening, good_inside, good_end}
 use Rattle.hk_lines.specs.Posts.{ArgText, Number, Set, Numbers, Post, SaysPost}
 use Rattle.hk_model.specs.Postings.{FitsKind, FitKinds, IsSmallArg, IsArgOf, AreArgsOf, AddsPost}
-use Rattle.hk_model.specs.Problems.{PlainProblem, IsWithin, IsScope, IsPosted, IsValid}
+use Rattle.hk_group.specs.Problems.{PlainProblem, IsWithin, IsScope, IsPosted, IsValid}
 use Rattle.hk_parse.proofs.PartRules.{begins_valid, good_after_valid, whole_valid, whole_no_best}
 use Rattle.hk_model.proofs.GradedLines.{IsGradedPart, begins_graded, whole_graded, good_after_graded}
-use Rattle.hk_model.proofs.SumSizes.{scope_short}
-use Rattle.hk_model.proofs.Validity.{IsValidSoFar, as_many, named_scope, constraint_valid, statement_valid}
+use Rattle.hk_group.proofs.SumSizes.{scope_short}
+use Rattle.hk_draft.proofs.Validity.{IsValidSoFar, as_many, named_scope, constraint_valid, statement_valid}
 
 -- a declared specification is valid, its test doesn't use the bound on the cost, and it is graded
 pub record IsDeclared (s : Specification) : Type 0 where

@@ -1,11 +1,8 @@
-pub mod Declares
 pub mod LineFaults
 pub mod Limits
 pub mod Models
 pub mod Postings
-pub mod Problems
 pub mod Refused
-pub mod Solutions
 pub mod inside
 pub use Rattle.hk_base.specs.Sets
 pub use Rattle.hk_lines.specs.Later

@@ -1,26 +1,6 @@
--- How much a model may hold.
-use Rattle.std.specs.Prelude.{ℕ, ℤ, pos}
-
--- how many variables there are at most
-abbrev pub most_variables : ℕ
-most_variables = 256
-
--- how many values there are: a variable takes values from 0 to 127
-abbrev pub value_count : ℕ
-value_count = 128
-
--- how many bytes a name has at most
-abbrev pub most_name_bytes : ℕ
-most_name_bytes = 32
-
--- how many constraints there are at most
-abbrev pub most_constraints : ℕ
-most_constraints = 64
+-- How much a model may hold beside its problem.
+use Rattle.std.specs.Prelude.{ℕ}
 
 -- how many specifications there are at most
 abbrev pub most_specifications : ℕ
 most_specifications = 64
-
--- how great a coefficient is at most in size
-abbrev pub greatest_coefficient : ℤ
-greatest_coefficient = pos 1000000

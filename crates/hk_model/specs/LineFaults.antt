@@ -1,54 +1,18 @@
 -- Why a line is bad: each kind of fault, by the line's tokens and what was declared before, and the order of the kinds.
-use Rattle.std.specs.Prelude.{◌≡◌, ◌≢◌, ℕ, ◌<◌, ◌≤◌, ◌⊎◌, ℤ, List, [], length, map, Any, Option, None, Some, IsSome}
-use Rattle.std.specs.List.Sorted.{IsStrictlyIncreasing}
+use Rattle.std.specs.Prelude.{◌≡◌, ◌≢◌, ℕ, ◌≤◌, ◌⊎◌, List, [], length, Option, None, Some, IsSome}
 use Rattle.hk_text.specs.Tokens.{IsBadByte, HasTexts}
-use Rattle.hk_model.specs.Limits.{most_variables, value_count, most_name_bytes, most_constraints, greatest_coefficient, most_specifications}
-use Rattle.hk_base.specs.Limits.{number_limit}
-use Rattle.hk_model.specs.declared.refusal.RefusalKind.{RefusalKind}
-use Rattle.hk_model.specs.declared.refusal.RefusalKind.TheVariants.{Text, Later, Syntax, Name, Limit, Scope, Grade, Unfinished}
+use Rattle.hk_model.specs.Limits.{most_specifications}
+use Rattle.hk_draft.specs.declared.kinds.RefusalKind.{RefusalKind}
+use Rattle.hk_draft.specs.declared.kinds.RefusalKind.TheVariants.{Text, Later, Syntax, Name, Limit, Scope, Grade, Unfinished}
 use Rattle.hk_parse.specs.BlockLines.{Part, MayStand as MayStandIn, BeginNameFault, BeginLimitFault, LineNameFault, LineLimitFault, IsGoodAfter}
 use Rattle.hk_parse.specs.LineTexts.{ParamText, LineText, Begin, SaysLine}
 use Rattle.hk_model.specs.Models.{Declared, IsLaterLine, wrong_latest}
 use Rattle.hk_lines.specs.Posts.{Post, SaysPost}
 use Rattle.hk_model.specs.Postings.{PostNameFault, PostLimitFault, PostScopeFault, spec_of}
-use Rattle.hk_lines.specs.Phrases.{Values, Term}
-use Rattle.hk_model.specs.Problems.{PlainProblem, IsWithin}
-use Rattle.hk_lines.specs.Statements.{Statement, Header, Variable, Distinct, Total, Objective, Says}
-use Rattle.hk_model.specs.Declares.{MayStand, place_of, term_names, term_coefs}
-
--- the names of variables that a statement uses
-abbrev pub used_names : Statement → List (List ℕ)
-used_names Header = []
-used_names (Variable name set) = []
-used_names (Distinct names) = names
-used_names (Total terms least most) = term_names terms
-used_names (Objective terms) = term_names terms
-
--- a name is declared twice, or not where it is used; or there is an objective already
-pub data IsNameFault (before : PlainProblem) : Statement → Type 0 where
-  declared_twice : {name : List ℕ} {set : List Values} → IsSome (place_of before.names name) → IsNameFault before (Variable name set)
-  not_declared : {statement : Statement} → Any (λ name. place_of before.names name ≡ None) (used_names statement) → IsNameFault before statement
-  second_objective : {terms : List Term} → IsSome before.objective → IsNameFault before (Objective terms)
-
--- a quantity passes its limit, a range is turned, or a set has no value
-pub data IsLimitFault (before : PlainProblem) : Statement → Type 0 where
-  long_name : {name : List ℕ} {set : List Values} → most_name_bytes < length name → IsLimitFault before (Variable name set)
-  large_value : {name : List ℕ} {set : List Values} → Any (λ values. value_count ≤ values.last) set → IsLimitFault before (Variable name set)
-  turned_range : {name : List ℕ} {set : List Values} → Any (λ values. values.last < values.first) set → IsLimitFault before (Variable name set)
-  no_value : {name : List ℕ} → IsLimitFault before (Variable name [])
-  many_variables : {name : List ℕ} {set : List Values} → most_variables ≤ length before.names → IsLimitFault before (Variable name set)
-  many_differ : {names : List (List ℕ)} → most_constraints ≤ length before.constraints → IsLimitFault before (Distinct names)
-  many_totals : {terms : List Term} {least most : ℤ} → most_constraints ≤ length before.constraints → IsLimitFault before (Total terms least most)
-  large_least : {terms : List Term} {least most : ℤ} → (IsWithin number_limit least → ⊥) → IsLimitFault before (Total terms least most)
-  large_most : {terms : List Term} {least most : ℤ} → (IsWithin number_limit most → ⊥) → IsLimitFault before (Total terms least most)
-  large_total_coef : {terms : List Term} {least most : ℤ} → Any (λ coef. IsWithin greatest_coefficient coef → ⊥) (term_coefs terms) → IsLimitFault before (Total terms least most)
-  large_coef : {terms : List Term} → Any (λ coef. IsWithin greatest_coefficient coef → ⊥) (term_coefs terms) → IsLimitFault before (Objective terms)
-
--- the variables that a statement uses don't stand strictly in the order of their declaration
-pub record IsScopeFault (before : PlainProblem) (statement : Statement) : Type 0 where
-  pub scope : List ℕ
-  pub places : map (place_of before.names) (used_names statement) ≡ map Some scope
-  pub falls : IsStrictlyIncreasing scope → ⊥
+use Rattle.hk_group.specs.Problems.{PlainProblem}
+use Rattle.hk_lines.specs.Statements.{Statement, Says}
+use Rattle.hk_draft.specs.Declares.{MayStand}
+use Rattle.hk_draft.specs.Faults.{IsNameFault, IsLimitFault, IsScopeFault}
 
 -- outside of a specification the texts say no statement which may stand there, and after the header no post and no first line of a specification
 pub record SayNothingOutside (before : Option PlainProblem) (texts : List (List ℕ)) : Type 0 where

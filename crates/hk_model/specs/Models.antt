@@ -13,9 +13,9 @@ use Rattle.hk_spec.specs.Specifications.{Specification, kinds_of_properties}
 use Rattle.hk_model.specs.Limits.{most_specifications}
 use Rattle.hk_lines.specs.Posts.{Post, SaysPost}
 use Rattle.hk_model.specs.Postings.{AddsPost, spec_of}
-use Rattle.hk_model.specs.Problems.{PlainProblem}
+use Rattle.hk_group.specs.Problems.{PlainProblem}
 use Rattle.hk_lines.specs.Statements.{Statement, Says}
-use Rattle.hk_model.specs.Declares.{Declares}
+use Rattle.hk_draft.specs.Declares.{Declares}
 use Rattle.hk_lines.specs.Later.{later_words}
 
 -- what the lines so far declare: the problem, None before the header; the specifications; and the part of a specification that isn't ended

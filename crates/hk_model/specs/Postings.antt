@@ -6,11 +6,11 @@ use Rattle.hk_spec.specs.declared.arguments.Arg.TheVariants as argument
 use Rattle.hk_spec.specs.declared.parts.ParamKind.{ParamKind}
 use Rattle.hk_spec.specs.declared.parts.ParamKind.TheVariants as param
 use Rattle.hk_spec.specs.Specifications.{Specification, param_kinds}
-use Rattle.hk_model.specs.Limits.{most_constraints, value_count, greatest_coefficient}
+use Rattle.hk_group.specs.Limits.{most_constraints, value_count, greatest_coefficient}
 use Rattle.hk_base.specs.Limits.{number_limit}
-use Rattle.hk_model.specs.declared.problem.Constraint.TheVariants.{User}
-use Rattle.hk_model.specs.Problems.{PlainProblem, IsWithin}
-use Rattle.hk_model.specs.Declares.{place_of, AreNamesOf, AddsConstraint}
+use Rattle.hk_group.specs.declared.problem.Constraint.TheVariants.{User}
+use Rattle.hk_group.specs.Problems.{PlainProblem, IsWithin}
+use Rattle.hk_draft.specs.Declares.{place_of, AreNamesOf, AddsConstraint}
 use Rattle.hk_lines.specs.ValueSets.{IsSetOf}
 use Rattle.hk_lines.specs.Posts.{ArgText, Number, Numbers, Post, Set}
 

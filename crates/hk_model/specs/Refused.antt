@@ -3,8 +3,8 @@ use Rattle.std.specs.Prelude.{◌≡◌, ℕ, ◌+◌, ◌⊎◌, List, length, 
 use Rattle.hk_text.specs.Lines.{lines}
 use Rattle.hk_model.specs.declared.refusal.ModelError.{ModelError}
 use Rattle.hk_model.specs.declared.refusal.ModelError.TheVariants.{Refused, Memory}
-use Rattle.hk_model.specs.declared.refusal.RefusalKind.{RefusalKind}
-use Rattle.hk_model.specs.declared.refusal.RefusalKind.TheVariants.{Unfinished}
+use Rattle.hk_draft.specs.declared.kinds.RefusalKind.{RefusalKind}
+use Rattle.hk_draft.specs.declared.kinds.RefusalKind.TheVariants.{Unfinished}
 use Rattle.hk_model.specs.LineFaults.{IsFirstFault}
 use Rattle.hk_model.specs.Models.{Declared, nothing_declared, AreGoodLines, IsFirstBadLine}
 

@@ -1,4 +1,3 @@
 -- Definitions that only contracts within the crate cite.
 pub mod Faults
-pub mod Fits
 pub mod PostFaults

@@ -1,21 +1,19 @@
 //! What a post declares, after the lines before it.
 
 ghost use Rattle.std.specs.Prelude.{◌≡◌, ◌≤◌, ◌<◌, ◌↔◌, ◌⊎◌, ℕ, All, Any, false, length, map, None, Some, IsNone, IsTrue, OnOk, IfOk, IfErr, IfSome};
-ghost use Rattle.hk_model.specs.Limits.{most_constraints, value_count, greatest_coefficient};
+ghost use Rattle.hk_group.specs.Limits.{most_constraints, value_count, greatest_coefficient};
 ghost use Rattle.hk_model.specs.Postings.{AddsPost, FitsKind, FitKinds, IsSmallArg, IsArgOf, AreArgsOf, spec_of};
 ghost use Rattle.hk_model.specs.inside.PostFaults.{HasNoFit, IsPostFault};
 ghost use Rattle.hk_lines.specs.PostShapes.{args_of, plain_arg, plain_post};
-ghost use Rattle.hk_model.specs.Problems.{IsWithin};
+ghost use Rattle.hk_group.specs.Problems.{IsWithin};
 ghost use Rattle.hk_spec.specs.Specifications.{param_kinds};
 
-use crate::declaring::is_within_limit;
-use crate::draft::Draft;
-use crate::faults::LineFault;
-use crate::limits::{COEFFICIENT, CONSTRAINTS, VALUES};
-use crate::problem::Constraint;
-use crate::refusal::RefusalKind;
-use crate::scopes::{is_rising, places_of};
 use hk_base::List;
+use hk_draft::{
+    Draft, LineFault, RefusalKind, is_rising, is_small_set, is_within_limit, places_of,
+};
+use hk_group::Constraint;
+use hk_group::limits::{COEFFICIENT, CONSTRAINTS, VALUES};
 use hk_lines::{PostArg, PostShape, Values, set_of_values};
 use hk_spec::{Arg, Bound, Param, ParamKind, Spec};
 use std::alloc::{AllocError, Global};
@@ -168,13 +166,6 @@ fn is_small_arg(arg: &PostArg, count: usize) -> bool
             numbers.as_slice().len() == count && are_small_numbers(numbers.as_slice())
         }
     }
-}
-
-/// Whether no range is turned, and no value passes the limit.
-fn is_small_set(set: &[Values]) -> bool
-    ensures { IsTrue result ↔ All (λ values. (values.first ≤ values.last) × (values.last < value_count)) set.now }
-{
-    set.iter().all(|values| values.first <= values.last && values.last < u64::from(VALUES))
 }
 
 /// Whether each number is at most as great as a coefficient.

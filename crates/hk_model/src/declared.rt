@@ -8,19 +8,17 @@ ghost use Rattle.hk_text.specs.Texts.{texts_of};
 ghost use Rattle.hk_text.specs.Tokens.{HasTexts, IsTokenIn};
 ghost use Rattle.hk_lines.specs.Plain.{statement_of};
 ghost use Rattle.hk_lines.specs.Later.{BeginsLater};
-ghost use Rattle.hk_model.specs.inside.Faults.{EndsBlock, IsLineFault, IsPostFaultAfter, IsStatementFault, Posts, as_begin_fault, as_line_fault};
+ghost use Rattle.hk_model.specs.inside.Faults.{EndsBlock, IsLineFault, IsPostFaultAfter, Posts, as_begin_fault, as_line_fault};
+ghost use Rattle.hk_draft.specs.Faults.{IsStatementFault};
 ghost use Rattle.hk_model.specs.Models.{IsGoodLine, nothing_declared, wrong_latest};
 ghost use Rattle.hk_model.specs.Postings.{spec_of};
 ghost use Rattle.hk_lines.specs.PostShapes.{plain_post};
-ghost use Rattle.hk_model.specs.Declares.{Declares};
+ghost use Rattle.hk_draft.specs.Declares.{Declares};
 
 use crate::binding::{post, spec_named};
-use crate::declaring::declare;
-use crate::draft::Draft;
-use crate::faults::LineFault;
 use crate::limits::SPECIFICATIONS;
-use crate::refusal::RefusalKind;
 use hk_base::List;
+use hk_draft::{Draft, LineFault, RefusalKind, declare};
 use hk_grade::{Properties, Sense, wrong_step, wrong_test};
 use hk_lines::{PostShape, Shape, begins_later, post_of, shape_of};
 use hk_parse::{Block, BlockFault};
@@ -43,7 +41,7 @@ impl Model for Declared {
     ghost use Rattle.std.specs.Coded.{codes};
     ghost use Rattle.hk_parse.specs.contracts.blocks.Block as part;
     ghost use Rattle.hk_spec.specs.contracts.specification.Spec as specification;
-    ghost use Rattle.hk_model.specs.contracts.draft.Draft as problem;
+    ghost use Rattle.hk_draft.specs.contracts.draft.Draft as problem;
     ghost use Rattle.hk_model.specs.Models.{Declared};
 
     ghost Value = { Declared };

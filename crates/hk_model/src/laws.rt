@@ -1,8 +1,8 @@
 //! Laws of the definitions: a text has one outcome, and spells a valid problem.
 
 ghost use Rattle.std.specs.Prelude.{◌≡◌, ◌⊎◌, ℕ, List};
-ghost use Rattle.hk_model.specs.declared.refusal.RefusalKind.{RefusalKind};
-ghost use Rattle.hk_model.specs.Problems.{PlainProblem, IsValid};
+ghost use Rattle.hk_draft.specs.declared.kinds.RefusalKind.{RefusalKind};
+ghost use Rattle.hk_group.specs.Problems.{PlainProblem, IsValid};
 ghost use Rattle.hk_model.specs.Models.{Spells};
 ghost use Rattle.hk_model.specs.Refused.{IsRefusal};
 

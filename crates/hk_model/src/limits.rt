@@ -1,21 +1,4 @@
-//! How much a model may hold.
-
-pub use hk_base::LIM;
-
-/// How many variables a problem has at most.
-pub const VARIABLES: usize = 256;
-
-/// How many values there are: a variable takes values from 0 to 127.
-pub const VALUES: u32 = 128;
-
-/// How many bytes a name has at most.
-pub const NAME_BYTES: usize = 32;
-
-/// How many constraints a problem has at most.
-pub const CONSTRAINTS: usize = 64;
+//! How much a model may hold beside its problem.
 
 /// How many specifications a model has at most.
 pub const SPECIFICATIONS: usize = 64;
-
-/// How great a coefficient is at most in size.
-pub const COEFFICIENT: i64 = 1_000_000;

@@ -6,9 +6,10 @@ ghost use Rattle.hk_model.specs.Models.{IsGoodLine, Spells};
 ghost use Rattle.hk_model.specs.Refused.{IsErrorOf};
 
 use crate::declared::Declared;
-use crate::faults::{LineFault, error_at};
-use crate::problem::Problem;
-use crate::refusal::{ModelError, RefusalKind};
+use crate::faults::error_at;
+use crate::refusal::ModelError;
+use hk_draft::{LineFault, RefusalKind};
+use hk_group::Problem;
 use hk_text::{TextFault, split_line, tokens};
 use std::alloc::Global;
 

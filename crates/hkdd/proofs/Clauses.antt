@@ -3,8 +3,8 @@ use Rattle.std.proofs.Common.{◌≡◌, ◌∙◌, sym, refl, ap, subst, inl, i
 use Rattle.std.proofs.lemmas.List.{take_all, length-take-le}
 use Rattle.std.specs.Prelude.{◌⊎◌}
 use Rattle.hk_base.specs.Hosts.{View, ReadFaulted, WriteFaulted}
-use Rattle.hk_model.specs.declared.refusal.RefusalKind.{RefusalKind}
-use Rattle.hk_model.specs.Problems.{PlainProblem}
+use Rattle.hk_draft.specs.declared.kinds.RefusalKind.{RefusalKind}
+use Rattle.hk_group.specs.Problems.{PlainProblem}
 use Rattle.hk_model.specs.Models.{Spells}
 use Rattle.hk_model.specs.Refused.{IsRefusal}
 use Rattle.hk_model.proofs.Outcomes.{one_problem, no_refusal, one_refusal}

@@ -1,7 +1,7 @@
 -- What is said of a model, by what was found of it.
 use Rattle.std.proofs.Common.{◌≡◌, sym, subst, Result, Ok, Err, IfOk, ℕ, ◌<◌, ◌≤◌, List, length}
-use Rattle.hk_model.specs.declared.refusal.RefusalKind.{RefusalKind}
-use Rattle.hk_model.specs.Problems.{PlainProblem}
+use Rattle.hk_draft.specs.declared.kinds.RefusalKind.{RefusalKind}
+use Rattle.hk_group.specs.Problems.{PlainProblem}
 use Rattle.hk_model.specs.Models.{Spells}
 use Rattle.hk_model.specs.Refused.{IsRefusal}
 use Rattle.hk_search.specs.AnswerTexts.{IsAnswerText}

@@ -3,8 +3,8 @@ use Rattle.std.specs.Prelude.{◌≡◌, ℕ, ◌+◌, ◌<◌, ◌≤◌, List,
 use Rattle.hk_base.specs.declared.host.Slot.TheVariants.{Model, CertOut, Out}
 use Rattle.hk_base.specs.Hosts.{View, ReadFaulted, WriteFaulted}
 use Rattle.hk_base.specs.Lists.{IsFrontOf}
-use Rattle.hk_model.specs.declared.refusal.RefusalKind.{RefusalKind}
-use Rattle.hk_model.specs.Problems.{PlainProblem}
+use Rattle.hk_draft.specs.declared.kinds.RefusalKind.{RefusalKind}
+use Rattle.hk_group.specs.Problems.{PlainProblem}
 use Rattle.hk_model.specs.Models.{Spells}
 use Rattle.hk_model.specs.Refused.{IsRefusal}
 use Rattle.hk_search.specs.AnswerTexts.{IsAnswerText}

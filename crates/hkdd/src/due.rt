@@ -7,7 +7,8 @@ ghost use Rattle.hkdd.specs.Texts.{usage_text, read_fault_text, refusal_text, to
 
 use crate::limits::MODEL_BYTES;
 use hk_base::{Bytes, List};
-use hk_model::{ModelError, Problem, Refusal, RefusalKind, read_model};
+use hk_group::Problem;
+use hk_model::{ModelError, Refusal, RefusalKind, read_model};
 use hk_search::{answer_text, search_plain};
 use hk_text::push_number;
 use std::alloc::{AllocError, Global};

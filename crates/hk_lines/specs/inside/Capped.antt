@@ -13,6 +13,16 @@ pub record BeginsCapped {X : Type 0} (Phrase : List (List ℕ) → X → List (L
 abbrev pub BeginsWithout : {X : Type 0} → (List (List ℕ) → X → List (List ℕ) → Type 0) → List (List ℕ) → Type 0
 BeginsWithout {X} Phrase texts = (x : X) (rest : List (List ℕ)) → Phrase texts x rest → ⊥
 
+-- what texts are as a whole, capped
+pub record IsCapped {X : Type 0} (Phrase : List (List ℕ) → X → Type 0) (cap : X → X) (texts : List (List ℕ)) (answer : X) : Type 0 where
+  pub exact : X
+  pub phrase : Phrase texts exact
+  pub is_capped : answer ≡ cap exact
+
+-- texts are no such phrase
+abbrev pub AreNone : {X : Type 0} → (List (List ℕ) → X → Type 0) → List (List ℕ) → Type 0
+AreNone {X} Phrase texts = (x : X) → Phrase texts x → ⊥
+
 -- the texts are two bounds, which are these when they are capped
 pub record AreBounds (texts : List (List ℕ)) (least most : ℤ) : Type 0 where
   pub from : ℤ

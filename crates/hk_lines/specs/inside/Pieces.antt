@@ -2,7 +2,7 @@
 use Rattle.std.specs.Prelude.{◌≡◌, ℕ, List, [], ◌∷◌, codes}
 use Rattle.hk_text.specs.Lexemes.{IsWord}
 use Rattle.hk_text.specs.Numbers.{IsNumber}
-use Rattle.hk_lines.specs.Phrases.{Values, Term, SignedThen}
+use Rattle.hk_lines.specs.Phrases.{Values, Term, RangeThen, SignedThen}
 
 -- a number, and the rest
 pub record NumberThen (texts : List (List ℕ)) (n : ℕ) (rest : List (List ℕ)) : Type 0 where
@@ -14,14 +14,6 @@ pub record NumberThen (texts : List (List ℕ)) (n : ℕ) (rest : List (List ℕ
 pub record WordThen (texts : List (List ℕ)) (word : List ℕ) (rest : List (List ℕ)) : Type 0 where
   pub parts : texts ≡ word ∷ rest
   pub is_word : IsWord word
-
--- a range, and the rest
-pub record RangeThen (texts : List (List ℕ)) (values : Values) (rest : List (List ℕ)) : Type 0 where
-  pub from : List ℕ
-  pub to : List ℕ
-  pub parts : texts ≡ from ∷ codes ".." ∷ to ∷ rest
-  pub from_is : IsNumber from values.first
-  pub to_is : IsNumber to values.last
 
 -- an item of a set, a range or else a number, and the rest
 pub data ItemThen : List (List ℕ) → Values → List (List ℕ) → Type 0 where
@@ -35,8 +27,6 @@ pub record TermThen (texts : List (List ℕ)) (term : Term) (rest : List (List �
   pub signed : SignedThen texts term.coef (codes "*" ∷ term.name ∷ rest)
   pub is_word : IsWord term.name
 
--- names, each but the last before a comma, and the closing parenthesis
-pub data NamesThen : List (List ℕ) → List (List ℕ) → List (List ℕ) → Type 0 where
-  last_name : {texts rest : List (List ℕ)} {name : List ℕ} → texts ≡ name ∷ codes ")" ∷ rest → IsWord name → NamesThen texts (name ∷ []) rest
-  more_name : {texts more rest : List (List ℕ)} {name : List ℕ} {names : List (List ℕ)}
-      → texts ≡ name ∷ codes "," ∷ more → IsWord name → NamesThen more names rest → NamesThen texts (name ∷ names) rest
+-- a range and no more
+abbrev pub IsWholeRange : List (List ℕ) → Values → Type 0
+IsWholeRange texts values = RangeThen texts values []

@@ -1,47 +1,20 @@
--- Why the reader stops, at a statement or at a line.
-use Rattle.std.specs.Prelude.{◌≡◌, ℕ, Bool, true, List, [], ◌∷◌, ◌++◌, Any, Option, None, Some}
+-- Why the reader stops at a line.
+use Rattle.std.specs.Prelude.{◌≡◌, ℕ, Bool, true, List, [], ◌∷◌, ◌++◌, Option, None, Some}
 use Rattle.hk_parse.specs.BlockLines.{Part, whole_spec}
 use Rattle.hk_parse.specs.declared.faults.BlockFault.{BlockFault}
 use Rattle.hk_parse.specs.declared.faults.BlockFault.TheVariants as block
 use Rattle.hk_spec.specs.declared.expressions.Cond.{Cond}
-use Rattle.hk_model.specs.declared.faults.LineFault.{LineFault}
-use Rattle.hk_model.specs.declared.faults.LineFault.TheVariants.{Bad, NoMemory}
+use Rattle.hk_draft.specs.declared.faults.LineFault.{LineFault}
+use Rattle.hk_draft.specs.declared.faults.LineFault.TheVariants.{Bad, NoMemory}
 use Rattle.hk_model.specs.declared.refusal.ModelError.{ModelError}
 use Rattle.hk_model.specs.declared.refusal.ModelError.TheVariants.{Refused, Memory}
-use Rattle.hk_model.specs.declared.refusal.RefusalKind.{RefusalKind}
-use Rattle.hk_model.specs.declared.refusal.RefusalKind.TheVariants.{Text, Later, Syntax, Name, Limit, Scope, Grade, Unfinished}
-use Rattle.hk_model.specs.LineFaults.{IsNameFault, IsLimitFault, IsScopeFault, IsFirstFault}
+use Rattle.hk_draft.specs.declared.kinds.RefusalKind.TheVariants.{Syntax, Name, Limit}
+use Rattle.hk_model.specs.LineFaults.{IsFirstFault}
 use Rattle.hk_model.specs.Models.{Declared, IsBadLine}
 use Rattle.hk_lines.specs.Posts.{Post}
 use Rattle.hk_model.specs.Postings.{AddsPost}
 use Rattle.hk_model.specs.inside.PostFaults.{IsPostFault}
-use Rattle.hk_model.specs.Problems.{PlainProblem}
-use Rattle.hk_lines.specs.Statements.{Statement}
-use Rattle.hk_model.specs.Declares.{MayStand, place_of}
-
--- the first fault, in the order of kinds, of a statement after what was declared before it
-abbrev pub IsFaultyStatement : Option PlainProblem → Statement → RefusalKind → Type 0
-IsFaultyStatement before statement Text = ⊥
-IsFaultyStatement before statement Later = ⊥
-IsFaultyStatement before statement Syntax = MayStand before statement → ⊥
-IsFaultyStatement None statement Name = ⊥
-IsFaultyStatement (Some before) statement Name = IsNameFault before statement
-IsFaultyStatement None statement Limit = ⊥
-IsFaultyStatement (Some before) statement Limit = IsLimitFault before statement × (IsNameFault before statement → ⊥)
-IsFaultyStatement None statement Scope = ⊥
-IsFaultyStatement (Some before) statement Scope = IsScopeFault before statement × (IsNameFault before statement → ⊥) × (IsLimitFault before statement → ⊥)
-IsFaultyStatement before statement Grade = ⊥
-IsFaultyStatement before statement Unfinished = ⊥
-
--- why the reader stops at a statement: it has this fault first; want of memory says nothing
-abbrev pub IsStatementFault : Option PlainProblem → Statement → LineFault → Type 0
-IsStatementFault before statement (Bad kind) = IsFaultyStatement before statement kind
-IsStatementFault before statement NoMemory = Unit {0}
-
--- why names have no places: one isn't declared; want of memory says nothing
-abbrev pub IsPlaceFault : List (List ℕ) → List (List ℕ) → LineFault → Type 0
-IsPlaceFault declared names (Bad kind) = (kind ≡ Name) × Any (λ name. place_of declared name ≡ None) names
-IsPlaceFault declared names NoMemory = Unit {0}
+use Rattle.hk_group.specs.Problems.{PlainProblem}
 
 -- why the reader stops at a line, by what was declared before it: it is bad, and has this fault first; want of memory says nothing
 abbrev pub IsLineFault : Declared → List ℕ → LineFault → Type 0

@@ -1,13 +1,13 @@
 -- Why the reader stops at a post: the first of its faults.
 use Rattle.std.specs.Prelude.{◌≡◌, ℕ, List, Some}
 use Rattle.hk_spec.specs.Specifications.{Specification, param_kinds}
-use Rattle.hk_model.specs.declared.faults.LineFault.{LineFault}
-use Rattle.hk_model.specs.declared.faults.LineFault.TheVariants.{Bad, NoMemory}
-use Rattle.hk_model.specs.declared.refusal.RefusalKind.{RefusalKind}
-use Rattle.hk_model.specs.declared.refusal.RefusalKind.TheVariants as kind
+use Rattle.hk_draft.specs.declared.faults.LineFault.{LineFault}
+use Rattle.hk_draft.specs.declared.faults.LineFault.TheVariants.{Bad, NoMemory}
+use Rattle.hk_draft.specs.declared.kinds.RefusalKind.{RefusalKind}
+use Rattle.hk_draft.specs.declared.kinds.RefusalKind.TheVariants as kind
 use Rattle.hk_lines.specs.Posts.{ArgText, Post}
 use Rattle.hk_model.specs.Postings.{PostNameFault, PostLimitFault, PostScopeFault, FitKinds, spec_of}
-use Rattle.hk_model.specs.Problems.{PlainProblem}
+use Rattle.hk_group.specs.Problems.{PlainProblem}
 
 -- no specification of this name asks such arguments
 abbrev pub HasNoFit : List Specification → List ℕ → List ArgText → Type 0

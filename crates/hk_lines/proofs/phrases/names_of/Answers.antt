@@ -1,7 +1,7 @@
 use Rattle.std.proofs.Common.{◌∷◌, [], map, refl, ap, sym, ◌∙◌, subst}
 use Rattle.std.proofs.lemmas.List.{map-append}
 use Rattle.hk_text.specs.Texts.{texts_of}
-use Rattle.hk_lines.specs.inside.Pieces.{NamesThen}
+use Rattle.hk_lines.specs.Phrases.{NamesThen}
 use Rattle.hk_lines.proofs.Lists.{ReadsOn, on_start, on_more, on_last, on_none, on_stop, on_shorter}
 use Rattle.hk_lines.proofs.Membership.{now_of}
 use Rattle.hk_lines.proofs.TermLists.{names_list, exact_word, exact_names}

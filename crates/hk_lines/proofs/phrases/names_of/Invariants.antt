@@ -1,7 +1,7 @@
 use Rattle.hk_text.specs.Tokens.{IsTokenIn}
 use Rattle.std.proofs.Common.{All, length, map}
 use Rattle.hk_text.specs.Texts.{texts_of}
-use Rattle.hk_lines.specs.inside.Pieces.{NamesThen}
+use Rattle.hk_lines.specs.Phrases.{NamesThen}
 use Rattle.hk_lines.proofs.Lists.{ReadsOn}
 use Rattle.hk_lines.proofs.Membership.{now_of}
 use Rattle.hk_lines.proofs.phrases.names_of.Given as goal

@@ -1,6 +1,6 @@
 use Rattle.std.proofs.Common.{[], map, sym, rules}
 use Rattle.hk_text.specs.Texts.{texts_of}
-use Rattle.hk_lines.specs.inside.Pieces.{NamesThen}
+use Rattle.hk_lines.specs.Phrases.{NamesThen}
 use Rattle.hk_lines.specs.inside.Capped.{BeginsWithout}
 use Rattle.hk_text.proofs.TokenTexts.{texts_over, texts_go_on}
 use Rattle.hk_lines.proofs.Membership.{now_of}

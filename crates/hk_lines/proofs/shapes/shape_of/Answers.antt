@@ -12,3 +12,6 @@ returns-clause-none c = λ _. nothing_said
     (c.in_default-after_text.ensures.none refl)
     (c.in_default-after_text-2.ensures.none refl)
     (c.in_default-after_text-3.ensures.none refl)
+    (c.in_default-after_text-4.ensures.none refl)
+    (c.in_default-after_text-5.ensures.none refl)
+    (c.in_default-after_text-6.ensures.none refl)

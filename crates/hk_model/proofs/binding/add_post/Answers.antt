@@ -1,13 +1,13 @@
 use Rattle.std.proofs.Common.{◌≡◌, ◌++◌, ◌∷◌, [], ◌⊎◌, ◌≤◌, ◌<◌, All, Any, Bor, List, ℕ, length, map, true≢false, refl, sym, ap, ◌∙◌, subst, rules}
 use Rattle.std.specs.List.Sorted.{IsStrictlyIncreasing}
 use Rattle.std.proofs.lemmas.List.{length-map}
-use Rattle.hk_model.specs.Limits.{most_constraints}
+use Rattle.hk_group.specs.Limits.{most_constraints}
 use Rattle.hk_lines.specs.declared.posts.PostArg.{PostArg}
-use Rattle.hk_model.specs.declared.problem.Constraint.TheVariants.{User}
+use Rattle.hk_group.specs.declared.problem.Constraint.TheVariants.{User}
 use Rattle.hk_lines.specs.Posts.{Post}
 use Rattle.hk_model.specs.Postings.{IsSmallArg}
 use Rattle.hk_lines.specs.PostShapes.{args_of}
-use Rattle.hk_model.specs.Problems.{PlainProblem}
+use Rattle.hk_group.specs.Problems.{PlainProblem}
 use Rattle.hk_lines.proofs.Membership.{now_of}
 use Rattle.hk_model.proofs.PostFaults.{places_within, unfit_post, named_post, large_post, small_post, posted}
 use Rattle.hk_model.proofs.binding.add_post.Goals as goal

@@ -1,5 +1,5 @@
 use Rattle.std.proofs.Common.{◌≤◌, ◌<◌}
-use Rattle.hk_model.specs.Limits.{value_count}
+use Rattle.hk_group.specs.Limits.{value_count}
 use Rattle.std.proofs.lemmas.List.Elements.{All-weaker}
 use Rattle.hk_model.proofs.PostFits.{small_arg_set}
 use Rattle.hk_model.proofs.binding.bound_arg.Goals as goal

@@ -2,7 +2,7 @@ use Rattle.std.proofs.Common.{◌≡◌, [], length, refl, sym, ◌∙◌, subst
 use Rattle.std.specs.Prelude.{IfOk}
 use Rattle.std.proofs.lemmas.Result.{IfOk-weaker}
 use Rattle.hk_model.specs.Models.{no_line, Spells}
-use Rattle.hk_model.specs.Problems.{PlainProblem}
+use Rattle.hk_group.specs.Problems.{PlainProblem}
 use Rattle.hk_model.proofs.FaultRanks.{zero_from_test}
 use Rattle.hk_model.proofs.Reaching.{Reached, reached_more, refused_at, unfinished, all_spelled, all_valid}
 use Rattle.hk_model.proofs.reading.read_model.Goals as goal

@@ -2,7 +2,8 @@ use Rattle.std.proofs.Common.{refl, sym, ◌∙◌, true≢false}
 use Rattle.std.proofs.lemmas.Result.{on_ok_weaker, IfErr-weaker}
 use Rattle.hk_text.specs.Texts.{texts_of}
 use Rattle.hk_lines.specs.Plain.{statement_of}
-use Rattle.hk_model.specs.inside.Faults.{IsStatementFault, IsLineFault}
+use Rattle.hk_model.specs.inside.Faults.{IsLineFault}
+use Rattle.hk_draft.specs.Faults.{IsStatementFault}
 use Rattle.hk_lines.specs.Shapes.{IsShapeOf}
 use Rattle.hk_model.proofs.FaultRanks.{later_line, later_begins, first_later, none_open, fault_bad}
 use Rattle.hk_model.proofs.FirstFaults.{first_of_statement}

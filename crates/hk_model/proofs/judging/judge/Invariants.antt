@@ -1,6 +1,0 @@
-use Rattle.std.proofs.Common.{All, take}
-use Rattle.hk_model.specs.Solutions.{Holds}
-use Rattle.hk_model.proofs.judging.judge.Given as goal
-
-abbrev pub invariant-loop-constraint : goal.invariant-loop-constraint
-invariant-loop-constraint l = All (Holds l.values) (take l.constraint-index l.constraint-items)
