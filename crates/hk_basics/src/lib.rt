@@ -10,6 +10,8 @@ mod domains;
 #[cfg(test)]
 mod hosts;
 #[cfg(test)]
+mod places;
+#[cfg(test)]
 mod states;
 #[cfg(test)]
 mod texts;

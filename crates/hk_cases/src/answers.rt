@@ -4,7 +4,7 @@
 use crate::models::{PAIR, WORTH, spelled};
 use crate::texts::numbered;
 use hk_base::List;
-use hk_model::Problem;
+use hk_group::Problem;
 use hk_search::{Found, answer_text, search_plain};
 use std::alloc::Global;
 

@@ -11,7 +11,13 @@ mod answers;
 #[cfg(test)]
 mod blocks;
 #[cfg(test)]
+mod counts;
+#[cfg(test)]
 mod grades;
+#[cfg(test)]
+mod groups;
+#[cfg(test)]
+mod library;
 #[cfg(test)]
 mod models;
 #[cfg(test)]

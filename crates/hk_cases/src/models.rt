@@ -2,7 +2,8 @@
 
 use crate::texts::{MOST_BYTES, numbered, repeat};
 use hk_base::{Bytes, List};
-use hk_model::{ModelError, Problem, Refusal, RefusalKind, judge, read_model};
+use hk_group::{Problem, judge};
+use hk_model::{ModelError, Refusal, RefusalKind, read_model};
 use std::alloc::{AllocError, Global};
 
 /// Two variables of which one is 1, where the first being 1 is worth 1.
@@ -29,7 +30,7 @@ pub fn spelled(alloc: Global, text: &[u8]) -> Option<Problem> {
 }
 
 /// The line and the kind of the refusal of a text, where it has one.
-fn refused(alloc: Global, text: &[u8]) -> Option<(u32, RefusalKind)> {
+pub fn refused(alloc: Global, text: &[u8]) -> Option<(u32, RefusalKind)> {
     if text.len() > MOST_BYTES {
         return None;
     }
@@ -92,7 +93,7 @@ fn refused_lines(
 
 /// What the values cost by a problem, where there is one below 128 for each variable; None where they
 /// don't keep the constraints.
-fn judged_by(alloc: Global, problem: &Problem, values: &[u8]) -> Option<Option<i64>> {
+pub fn judged_by(alloc: Global, problem: &Problem, values: &[u8]) -> Option<Option<i64>> {
     if problem.domains().len() != values.len() || values.iter().any(|value| *value > 127) {
         return None;
     }
@@ -100,7 +101,7 @@ fn judged_by(alloc: Global, problem: &Problem, values: &[u8]) -> Option<Option<i
 }
 
 /// The same by the problem that a text spells.
-fn judged(alloc: Global, text: &[u8], values: &[u8]) -> Option<Option<i64>> {
+pub fn judged(alloc: Global, text: &[u8], values: &[u8]) -> Option<Option<i64>> {
     let problem = spelled(alloc, text)?;
     let cost = judged_by(alloc, &problem, values);
     drop(problem);
@@ -269,11 +270,7 @@ const BAD_MODELS: &[Refused] = &[
         4,
         RefusalKind::Name,
     ),
-    (
-        "hkm 1\nvar x in 0..1\namong (x) {0} 1..1",
-        3,
-        RefusalKind::Later,
-    ),
+    ("hkm 1\nvar x in 0..1\ngroup", 3, RefusalKind::Later),
 ];
 
 const BAD_SPECIFICATIONS: &[Refused] = &[

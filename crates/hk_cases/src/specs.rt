@@ -2,8 +2,8 @@
 //! step of it writes.
 
 ghost use Rattle.std.specs.Prelude.{[], ◌∷◌, IfOk};
+ghost use Rattle.hk_kinds.specs.Parts.{part_at};
 ghost use Rattle.hk_kinds.specs.Shapes.{HasShape};
-ghost use Rattle.hk_spec.specs.Steps.{part_at};
 
 use crate::texts::MOST_BYTES;
 use hk_base::List;
@@ -40,12 +40,18 @@ fn rising(alloc: Global, count: usize) -> Option<Bound> {
     })
 }
 
-/// Whether the values are accepted, where they are as many as they must be, each below 128.
-fn accepted(alloc: Global, bound: &Bound, values: &[u8]) -> Option<bool> {
+/// Whether the values are accepted below a cost, where they are as many as they must be, each below
+/// 128.
+pub fn accepted_below(alloc: Global, bound: &Bound, values: &[u8], best: i64) -> Option<bool> {
     if values.len() != usize::from(bound.len) || values.iter().any(|value| *value > 127) {
         return None;
     }
-    bound.accepts(alloc, values, 0).ok()
+    bound.accepts(alloc, values, best).ok()
+}
+
+/// The same of a specification that doesn't name the bound on the cost.
+fn accepted(alloc: Global, bound: &Bound, values: &[u8]) -> Option<bool> {
+    accepted_below(alloc, bound, values, 0)
 }
 
 /// Whether `rise` accepts the values.

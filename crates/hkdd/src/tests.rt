@@ -33,6 +33,12 @@ const LARGE: &str = "hkm 1\nvar x in 0..1\nvar y in 0..1\nsum (1000001*x, 1*y) 1
 
 const TURNED: &str = "hkm 1\nvar x in 0..1\nvar y in 0..1\nalldifferent (y, x)\n";
 
+const WINDOW: &str = "hkm 1\nvar x in 0..1\nvar y in 0..1\nsequence 3 (x, y) {1} 2..2\n";
+
+const OCCURS: &str = "hkm 1\nvar x in 0..1\nvar y in 0..1\ngcc (x, y) 1:3..3\n";
+
+const AMONG: &str = "hkm 1\nvar x in 0..1\nvar y in 0..1\namong (x, y) {1} 2..2\n";
+
 /// Two values that rise, by a specification of that.
 const RISE: &str =
     "hkm 1\nvar x in 0..3\nvar y in 0..3\nspec rise ()\ndown m Min 0\ntest ((i < 1) or (m < v))\nstep m v\nend\npost rise () (x, y)\n";
@@ -219,6 +225,93 @@ var dora in 0..2
 alldifferent (ann, ben, cleo, dora)
 ";
 
+const CAR_SEQUENCE: &str =
+    "# Eight cars on a line. The value of a place is the class of the car that is built there: 0 has no extra, 1 a
+# sunroof, 2 a tow bar, and 3 has both.
+#
+# Shows: the demand for each class as a `gcc`, and what a station can do as a `sequence` each.
+#
+# Prints:
+#   solution
+#   first 0
+#   second 1
+#   third 2
+#   fourth 1
+#   fifth 0
+#   sixth 1
+#   seventh 2
+#   eighth 3
+
+hkm 1
+
+var first in 0..3
+var second in 0..3
+var third in 0..3
+var fourth in 0..3
+var fifth in 0..3
+var sixth in 0..3
+var seventh in 0..3
+var eighth in 0..3
+
+# so many cars of each class are ordered
+gcc (first, second, third, fourth, fifth, sixth, seventh, eighth) 0:2..2, 1:3..3, 2:2..2, 3:1..1
+
+# the station for sunroofs can take one car of two in a row
+sequence 2 (first, second, third, fourth, fifth, sixth, seventh, eighth) {1, 3} 0..1
+
+# the station for tow bars can take two cars of five in a row
+sequence 5 (first, second, third, fourth, fifth, sixth, seventh, eighth) {2..3} 0..2
+";
+
+const ROSTER: &str =
+    "# Ten days of one nurse, from a Monday to the Wednesday of the week after. The value of a day is the shift: 0 is a
+# day off, 1 the early shift and 2 the late one.
+#
+# Shows: `sequence` over any days in a row, `gcc` for how often each shift stands, `among` for some days, and an
+# objective.
+#
+# Prints:
+#   optimal 0
+#   monday 0
+#   tuesday 1
+#   wednesday 1
+#   thursday 1
+#   friday 2
+#   saturday 0
+#   sunday 0
+#   next_monday 2
+#   next_tuesday 0
+#   next_wednesday 2
+
+hkm 1
+
+var monday in 0..2
+var tuesday in 0..2
+var wednesday in 0..2
+var thursday in 0..2
+var friday in 0..2
+var saturday in 0..2
+var sunday in 0..2
+var next_monday in 0..2
+var next_tuesday in 0..2
+var next_wednesday in 0..2
+
+# in any seven days in a row, four or five are worked
+sequence 7 (monday, tuesday, wednesday, thursday, friday, saturday, sunday, next_monday, next_tuesday, next_wednesday) {1, 2} 4..5
+
+# in any two days in a row, at most one is late
+sequence 2 (monday, tuesday, wednesday, thursday, friday, saturday, sunday, next_monday, next_tuesday, next_wednesday) {2} 0..1
+
+# three or four early shifts and three late ones
+gcc (monday, tuesday, wednesday, thursday, friday, saturday, sunday, next_monday, next_tuesday, next_wednesday) 1:3..4, 2:3..3
+
+# one day of the weekend is off, or both are
+among (saturday, sunday) {0} 1..2
+
+# a quiet weekend, where a late shift counts twice
+minimize (1*saturday, 1*sunday)
+";
+
 /// A host with one input, `m`, so many bytes of room for what goes out, and one reading that fails,
 /// by its number from 1.
 fn host_with(
@@ -288,6 +381,9 @@ const ROWS: &[Row] = &[
     ("solve m", "hkm 1\nvar $\n", 3, "refused line 2 Text\n"),
     ("solve m", "hkm 2\n", 3, "refused line 1 Syntax\n"),
     ("solve m", "hkm 1\ngroup\n", 3, "refused line 2 Later\n"),
+    ("solve m", WINDOW, 0, "solution\nx 0\ny 0\n"),
+    ("solve m", OCCURS, 0, "infeasible\n"),
+    ("solve m", AMONG, 0, "solution\nx 1\ny 1\n"),
     ("solve m", TURNED, 3, "refused line 4 Scope\n"),
     ("solve m", TWICE, 3, "refused line 3 Name\n"),
     ("solve m", "", 3, "refused line 1 Unfinished\n"),
@@ -320,6 +416,12 @@ const ROWS: &[Row] = &[
 const EXAMPLES: &[Row] = &[
     (
         "solve m",
+        CAR_SEQUENCE,
+        0,
+        "solution\nfirst 0\nsecond 1\nthird 2\nfourth 1\nfifth 0\nsixth 1\nseventh 2\neighth 3\n",
+    ),
+    (
+        "solve m",
         COSTS,
         0,
         "optimal 106\nann_painting 0\nben_painting 1\nann_wiring 1\nben_wiring 0\nann_cleaning 1\nben_cleaning 0\n",
@@ -338,6 +440,12 @@ const EXAMPLES: &[Row] = &[
         "solution\nfirst 0\nsecond 1\nthird 2\n",
     ),
     ("solve m", PAIRS, 0, "solution\nlorry_a 0\nlorry_b 1\n"),
+    (
+        "solve m",
+        ROSTER,
+        0,
+        "optimal 0\nmonday 0\ntuesday 1\nwednesday 1\nthursday 1\nfriday 2\nsaturday 0\nsunday 0\nnext_monday 2\nnext_tuesday 0\nnext_wednesday 2\n",
+    ),
     ("solve m", SHORT_WEEK, 0, "infeasible\n"),
 ];
 

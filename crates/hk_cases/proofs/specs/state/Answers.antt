@@ -2,11 +2,11 @@ use Rattle.std.proofs.Common.{◌≡◌, ℕ, ◌<◌, pos, List, [], ◌∷◌,
 use Rattle.std.proofs.lemmas.Grind.{common_steps}
 use Rattle.std.proofs.lemmas.Int.{ints}
 use Rattle.hk_kinds.specs.Limits.{IsWithinLimit}
+use Rattle.hk_kinds.specs.Parts.{part_at}
 use Rattle.hk_kinds.specs.Shapes.{HasShape, is_min, no_kinds, one_more}
 use Rattle.hk_kinds.specs.declared.kinds.Kind.TheVariants.{Min}
 use Rattle.hk_kinds.specs.declared.properties.Prop.{Prop}
 use Rattle.hk_kinds.specs.declared.properties.Prop.TheVariants.{Num}
-use Rattle.hk_spec.specs.Steps.{part_at}
 use Rattle.hk_cases.proofs.specs.state.Goals as goal
 
 small_within : (n : ℕ) → n < 256 → IsWithinLimit (pos n)

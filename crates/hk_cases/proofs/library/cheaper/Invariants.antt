@@ -1,0 +1,6 @@
+use Rattle.std.proofs.Common.{◌≤◌}
+use Rattle.hk_cases.proofs.library.cheaper.Given as goal
+
+-- no more lists are counted than there were
+abbrev pub invariant-loop-number : goal.invariant-loop-number
+invariant-loop-number l = l.count ≤ l.number
