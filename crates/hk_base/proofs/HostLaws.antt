@@ -120,20 +120,9 @@ Wrote-piece slot bytes front rest after count a b c parts wrote behind piece = (
 pub ReadFaulted-then : (a b c : View) → ReadFaulted a b → SameOutside b c → ReadFaulted a c
 ReadFaulted-then a b c faulted outside = Rose-then _ _ _ faulted outside.read_faults
 
-pub WriteFaulted-then : (a b c : View) → WriteFaulted a b → SameOutside b c → WriteFaulted a c
-WriteFaulted-then a b c faulted outside = Rose-then _ _ _ faulted outside.write_faults
-
 -- a fault in the last of several calls is a fault in all of them
 pub then-WriteFaulted : (a b c : View) → SameOutside a b → WriteFaulted b c → WriteFaulted a c
 then-WriteFaulted a b c outside faulted = then-Rose _ _ _ outside.write_faults faulted
-
--- what is told to be written of any other slot
-pub Wrote-other : (slot other : Slot) (bytes : List ℕ) (old new : View) → slot_eq slot other ≡ false → Wrote slot bytes old new → new.written other ≡ old.written other
-Wrote-other slot other bytes old new differs wrote = ap (λ (had : Slot → Option (List ℕ)). had other) wrote.written ∙ changed-other old.written slot other _ differs
-
--- what is told to be left at any other slot
-pub Took-other : (slot other : Slot) (bytes : List ℕ) (old new : View) → slot_eq slot other ≡ false → Took slot bytes old new → old.left other ≡ new.left other
-Took-other slot other bytes old new differs took = ap (λ (had : Slot → Option (List ℕ)). had other) took.left ∙ changed-other new.left slot other _ differs
 
 -- a call that reads or writes opens no slot, whatever it answers
 pub Reads-opened : (old : View) (slot : Slot) (answer : Result ℕ Failed) (buffer : List ℕ) (new : View) → Reads old slot answer buffer new → new.opened ≡ old.opened

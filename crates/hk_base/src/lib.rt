@@ -8,6 +8,7 @@ pub use gate::Gate;
 pub use host::{Failed, Host, Slot};
 pub use limits::{LIM, limit_is_as_defined};
 pub use list::{Bytes, List};
+pub use making::{list_of, pair};
 pub use memory::MemoryHost;
 pub use writing::write_all;
 
@@ -18,6 +19,7 @@ mod host;
 mod inputs;
 mod limits;
 mod list;
+mod making;
 mod memory;
 mod outputs;
 mod writing;

@@ -43,10 +43,6 @@ IsOnlyValue-one_bit value within = record {
   ];
 }
 
--- the empty set has no two values
-pub HasSeveral-empty : HasSeveral 0 → ⊥
-HasSeveral-empty several = let none : bit_at 0 several.low ≡ 0 = bit_at-zero several.low in let one : bit_at 0 several.low ≡ 1 = several.has_low in omega arith
-
 -- a set that is empty without one value has no two
 pub HasSeveral-one : (set value : ℕ) → IsWithout set value 0 → HasSeveral set → ⊥
 HasSeveral-one set value without several = elim (cases_eq several.low value) [
@@ -90,14 +86,3 @@ IsOnlyValue-lowest set some fits single =
         | inr apart ↦ absurd (single (HasSeveral-other set other some fits within has apart))
       ];
     }
-
--- a set with an only value isn't empty, and has no two
-pub IsOnlyValue-single : (set value : ℕ) → IsOnlyValue set value → HasSeveral set → ⊥
-IsOnlyValue-single set value alone several =
-    let low : several.low ≡ value = alone.only several.low (omega (arith, several.apart, several.within)) several.has_low in
-    let high : several.high ≡ value = alone.only several.high several.within several.has_high in
-    omega (arith, several.apart)
-
--- the empty set has no only value
-pub IsOnlyValue-empty : (value : ℕ) → IsOnlyValue 0 value → ⊥
-IsOnlyValue-empty value alone = let none : bit_at 0 value ≡ 0 = bit_at-zero value in let one : bit_at 0 value ≡ 1 = alone.has in omega arith

@@ -15,16 +15,6 @@ use Rattle.hk_group.specs.inside.Placed.{IsPlaceOf, ArePlaces, down_by, up_by}
 use Rattle.hk_group.proofs.PartStates.{take_front, length-down_at, length-up_at}
 use Rattle.hk_group.proofs.PartsRevised.{down_shape_front, down_shape_back, up_shape_front, up_shape_back}
 
-map_same : (xs : List Prop) → map (λ (p : Prop). p) xs ≡ xs
-map_same [] = refl
-map_same (x ∷ xs) = ap (λ l. x ∷ l) (map_same xs)
-
--- one more property is written
-pub property_written : (own : List Prop) (x : Prop) (whole old after : List Prop) (first i : ℕ) → i < length own → slice_get own i ≡ Some x → first + i < length old → whole ≡ take (first + i) old ++ (drop i own ++ after) → whole ≡ take (first + (i + 1)) (set old (first + i) x) ++ (drop (i + 1) own ++ after)
-property_written own x whole old after first i h is within due =
-    step_written (λ (p : Prop). p) own x whole old after first i h (sym (get_or_from_slice_get own i x x is)) within (due ∙ ap (λ l. take (first + i) old ++ (l ++ after)) (sym (map_same (drop i own))))
-    ∙ ap (λ l. take (first + (i + 1)) (set old (first + i) x) ++ (l ++ after)) (map_same (drop (i + 1) own))
-
 pub append_apart : (xs ys zs : List Prop) → xs ++ (ys ++ zs) ≡ (xs ++ ys) ++ zs
 append_apart xs ys zs = grind (arith, common_steps)
 
@@ -92,9 +82,6 @@ pub record DownsLeft (parts : List Part) (places : List (Option ℕ)) (value : �
   pub long : length to ≡ length from
   pub within : first ≤ length from
 
-pub downs_begin : (parts : List Part) (places : List (Option ℕ)) (value : ℕ) (from to : List Prop) → HasShape (down_shape_of parts) from → ArePlaces parts places → length to ≡ length from → DownsLeft parts places value from 0 0 to
-downs_begin parts places value from to shape fit long = record { due = refl; shape = shape; fit = fit; long = long; within = omega arith }
-
 pub downs_end : (parts : List Part) (places : List (Option ℕ)) (value : ℕ) (from : List Prop) (k first : ℕ) (to : List Prop) → DownsLeft parts places value from k first to → length parts ≤ k → to ≡ down_by parts places value from
 downs_end parts places value from k first to left end =
     let none : drop k parts ≡ [] = drop_all k parts end in
@@ -127,9 +114,6 @@ module _ (parts : List Part) (places : List (Option ℕ)) (value : ℕ) (from : 
 
     down_fit : ArePlaces (part ∷ drop (k + 1) parts) (place ∷ drop (k + 1) places)
     down_fit = subst (λ l. ArePlaces (part ∷ drop (k + 1) parts) l) down_places (subst (λ l. ArePlaces l (drop k places)) down_parts left.fit)
-
-    pub down_turn_place : IsPlaceOf part place
-    down_turn_place = down_fit.0
 
     pub down_turn : (count : ℕ) (next : List Prop) → IsBound part.bound → count ≡ down_width part → next ≡ with_part first (down_at part place value (part_at first (down_width part) from)) to → DownsLeft parts places value from (k + 1) (first + count) next
     down_turn count next rules many written = subst (λ n. DownsLeft parts places value from (k + 1) (first + n) next) (sym many) (record {
@@ -182,9 +166,6 @@ pub record UpsLeft (parts : List Part) (places : List (Option ℕ)) (value : ℕ
   pub long : length to ≡ length from
   pub within : first ≤ length from
 
-pub ups_begin : (parts : List Part) (places : List (Option ℕ)) (value : ℕ) (from to : List Prop) → HasShape (up_shape_of parts) from → ArePlaces parts places → length to ≡ length from → UpsLeft parts places value from 0 0 to
-ups_begin parts places value from to shape fit long = record { due = refl; shape = shape; fit = fit; long = long; within = omega arith }
-
 pub ups_end : (parts : List Part) (places : List (Option ℕ)) (value : ℕ) (from : List Prop) (k first : ℕ) (to : List Prop) → UpsLeft parts places value from k first to → length parts ≤ k → to ≡ up_by parts places value from
 ups_end parts places value from k first to left end =
     let none : drop k parts ≡ [] = drop_all k parts end in
@@ -217,9 +198,6 @@ module _ (parts : List Part) (places : List (Option ℕ)) (value : ℕ) (from : 
 
     up_fit : ArePlaces (part ∷ drop (k + 1) parts) (place ∷ drop (k + 1) places)
     up_fit = subst (λ l. ArePlaces (part ∷ drop (k + 1) parts) l) up_places (subst (λ l. ArePlaces l (drop k places)) up_parts left.fit)
-
-    pub up_turn_place : IsPlaceOf part place
-    up_turn_place = up_fit.0
 
     pub up_turn : (count : ℕ) (next : List Prop) → IsBound part.bound → count ≡ up_width part → next ≡ with_part first (up_at part place value (part_at first (up_width part) from)) to → UpsLeft parts places value from (k + 1) (first + count) next
     up_turn count next rules many written = subst (λ n. UpsLeft parts places value from (k + 1) (first + n) next) (sym many) (record {

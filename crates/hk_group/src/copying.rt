@@ -5,7 +5,7 @@ ghost use Rattle.hk_group.specs.Composed.{HaveLengths, parts_of};
 ghost use Rattle.hk_group.specs.Groups.{IsPart};
 
 use crate::parts::GroupPart;
-use hk_base::List;
+use hk_base::{List, list_of};
 use hk_spec::Bound;
 use std::alloc::{AllocError, Global};
 
@@ -56,24 +56,10 @@ fn copied_part(alloc: Global, bound: &Bound, scope: &[u16]) -> Result<GroupPart,
     ensures rules { IfOk result IsPart }
 {
     let bound = bound.copy(alloc)?;
-    match copied_scope(alloc, scope) {
+    match list_of(alloc, scope) {
         Ok(scope) => Ok(GroupPart::new(bound, scope)),
         Err(refused) => {
             drop(bound);
-            Err(refused)
-        }
-    }
-}
-
-/// A copy of a scope.
-fn copied_scope(alloc: Global, scope: &[u16]) -> Result<List<u16>, AllocError>
-    ensures { IfOk result (λ copy. copy ≡ scope.now) }
-{
-    let mut copy = List::new(alloc);
-    match copy.push_all(scope) {
-        Ok(()) => Ok(copy),
-        Err(refused) => {
-            drop(copy);
             Err(refused)
         }
     }

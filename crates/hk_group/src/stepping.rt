@@ -7,7 +7,6 @@ ghost use Rattle.hk_kinds.specs.Shapes.{HasShape};
 ghost use Rattle.hk_spec.specs.Specifications.{down_shape, up_shape};
 
 use crate::parts::GroupPart;
-use crate::writing::write_over;
 use hk_kinds::{State, StateView};
 
 impl GroupPart {
@@ -31,7 +30,7 @@ impl GroupPart {
         let own = from.part(first, self.down_count());
         match place {
             Some(at) => self.bound.write_down(at as usize, value, &own, to, first),
-            None => write_over(&own, to, first),
+            None => to.write_part(first, &own),
         }
     }
 
@@ -55,7 +54,7 @@ impl GroupPart {
         let own = from.part(first, self.up_count());
         match place {
             Some(at) => self.bound.write_up(at as usize, value, &own, to, first),
-            None => write_over(&own, to, first),
+            None => to.write_part(first, &own),
         }
     }
 }

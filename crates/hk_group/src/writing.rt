@@ -1,22 +1,10 @@
-//! Properties written over those of a state.
+//! Initial values written over the properties of a state.
 ghost use Rattle.std.specs.Prelude.{◌≡◌, ◌≤◌, length, drop};
 ghost use Rattle.hk_kinds.specs.Parts.{with_part};
 ghost use Rattle.hk_spec.specs.Specifications.{initial_values};
 
-use hk_kinds::{State, StateView};
+use hk_kinds::State;
 use hk_spec::PropDecl;
-
-/// Writes properties over those of a state from a place on.
-pub fn write_over(own: &StateView<'_>, to: &mut State, first: usize)
-    requires { length own.now ≤ length (drop first to.old) }
-    ensures { to.new ≡ with_part first own.now to.old }
-{
-    // The places of a state fit their type, as those of a slice do.
-    let _properties = to.as_slice();
-    for i in 0..own.len() {
-        to.set(first + i, own.property(i));
-    }
-}
 
 /// Writes the initial values of properties over those of a state from a place on.
 pub fn write_initial(properties: &[PropDecl], to: &mut State, first: usize)

@@ -9,7 +9,7 @@ use Rattle.std.specs.Ordering.{is_lt, nat_cmp, ordering_then}
 use Rattle.std.specs.declared.cmp.Ordering.TheVariants.{Less}
 use Rattle.hk_kinds.specs.Orders.{state_order}
 use Rattle.hk_kinds.specs.contracts.keys.KeyOrd.TheImpl.{cmp-value}
-use Rattle.hk_kinds.specs.Keys.{IsKeyOf, AreKeysOf, IsNumbered, IsSorting, key_numbers, picked_at}
+use Rattle.hk_kinds.specs.inside.Keys.{IsKeyOf, AreKeysOf, IsNumbered, IsSorting, key_numbers, picked_at}
 use Rattle.hk_kinds.proofs.StateOrder.{derived_states}
 use Rattle.hk_kinds.specs.declared.keys.Key.{Key}
 use Rattle.hk_kinds.specs.declared.properties.Prop.{Prop}

@@ -4,7 +4,7 @@ use Rattle.std.specs.declared.cmp.Ordering.{Ordering}
 use Rattle.std.specs.declared.cmp.Ordering.TheVariants.{Less, Equal, Greater}
 use Rattle.std.proofs.lemmas.Cmp.{tied_itself}
 use Rattle.hk_kinds.specs.Distinct.{put_by, insert_state, Ascends, ascends_none, ascends_one, ascends_more}
-use Rattle.hk_kinds.specs.Keys.{IsLast}
+use Rattle.hk_kinds.specs.inside.Keys.{IsLast}
 use Rattle.hk_kinds.specs.Orders.{state_order}
 use Rattle.hk_kinds.specs.declared.properties.Prop.{Prop}
 use Rattle.hk_kinds.proofs.StateOrder.{state_total, state_apart}

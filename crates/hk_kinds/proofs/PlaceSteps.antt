@@ -7,7 +7,7 @@ use Rattle.std.specs.List.{Contains}
 use Rattle.std.specs.declared.cmp.Ordering.TheVariants.{Less}
 use Rattle.hk_base.specs.Lists.{IsFrontOf}
 use Rattle.hk_kinds.specs.Distinct.{insert_state, distinct_states, Ascends, IsPlacedAt, IsPlaced}
-use Rattle.hk_kinds.specs.Keys.{IsLast, IsNumbered, IsSorting, picked_at}
+use Rattle.hk_kinds.specs.inside.Keys.{IsLast, IsNumbered, IsSorting, picked_at}
 use Rattle.hk_kinds.specs.Orders.{state_order}
 use Rattle.hk_kinds.specs.declared.properties.Prop.{Prop}
 use Rattle.hk_kinds.proofs.DistinctLaws.{IsIn, in_at, in_from_contains, contains_from_in, distinct_ascends, same_distinct, length_distinct}
@@ -23,10 +23,6 @@ pub record TakenUpTo (rows : List (List Prop)) (numbers : List ℕ) (i : ℕ) (s
   pub last : 0 < i → IsLast (picked_at rows numbers (i - 1)) steps
   pub long : length places ≡ length rows
   pub each : (k : ℕ) → k < i → IsPlacedAt rows steps places (get_or numbers k 0)
-
--- before the first
-pub taken_none : (rows : List (List Prop)) (numbers : List ℕ) (steps : List (List Prop)) (places : List ℕ) → steps ≡ [] → length places ≡ length rows → TakenUpTo rows numbers 0 steps places
-taken_none rows numbers steps places none long = record { are = none; last = λ lt. absurd (omega arith); long = long; each = λ k lt. absurd (omega arith) }
 
 module _ (rows : List (List Prop)) (numbers : List ℕ) (i : ℕ) (steps : List (List Prop)) (places : List ℕ) (sorting : IsSorting rows numbers) (taken : TakenUpTo rows numbers i steps places) where
   -- the steps ascend

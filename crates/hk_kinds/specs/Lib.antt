@@ -1,7 +1,6 @@
 pub mod Covers
 pub mod Distinct
 pub mod Joins
-pub mod Keys
 pub mod Lattices
 pub mod Limits
 pub mod Orders
@@ -11,5 +10,6 @@ pub mod Sets
 pub mod Shapes
 pub mod Tops
 pub mod Views
+pub mod inside
 pub mod NumberLattices
 pub mod SetLattices

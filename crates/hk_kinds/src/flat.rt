@@ -21,8 +21,15 @@ pub fn write_at(properties: &mut [Prop], i: usize, state: &[Prop])
     requires { i * length state.now + length state.now ≤ length properties.old }
     ensures { properties.new ≡ with_part (i * length state.now) state.now properties.old }
 {
-    let first = i * state.len();
-    properties[first..first + state.len()].copy_from_slice(state);
+    write_over(properties, i * state.len(), state);
+}
+
+/// Writes properties over those from a place on.
+pub fn write_over(properties: &mut [Prop], first: usize, part: &[Prop])
+    requires { first + length part.now ≤ length properties.old }
+    ensures { properties.new ≡ with_part first part.now properties.old }
+{
+    properties[first..first + part.len()].copy_from_slice(part);
 }
 
 /// Joins a state into the one at a place.

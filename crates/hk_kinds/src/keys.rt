@@ -1,6 +1,6 @@
 //! Keys, by which the states of a list are sorted together with their numbers.
 ghost use Rattle.std.specs.Prelude.{length, IfOk};
-ghost use Rattle.hk_kinds.specs.Keys.{AreKeysOf, IsSorting, key_numbers};
+ghost use Rattle.hk_kinds.specs.inside.Keys.{AreKeysOf, IsSorting, key_numbers};
 
 use crate::properties::Prop;
 use crate::rows::States;

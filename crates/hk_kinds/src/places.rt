@@ -3,7 +3,7 @@ ghost use Rattle.std.specs.Prelude.{◌≡◌, ◌<◌, ◌^◌, ◌↔◌, ◌-
 ghost use Rattle.std.specs.declared.cmp.Ordering.TheVariants.{Less};
 ghost use Rattle.hk_base.specs.Lists.{IsFrontOf};
 ghost use Rattle.hk_kinds.specs.Distinct.{Ascends, IsPlaced, distinct_states, insert_state};
-ghost use Rattle.hk_kinds.specs.Keys.{IsLast, IsSorting, key_numbers};
+ghost use Rattle.hk_kinds.specs.inside.Keys.{IsLast, IsSorting, key_numbers};
 ghost use Rattle.hk_kinds.specs.Orders.{state_order};
 
 use crate::keys::{Key, sorted_keys};
@@ -13,8 +13,8 @@ use std::alloc::{AllocError, Global};
 use std::cmp::Ordering;
 
 /// Writes the distinct states in their order to `steps`, and to `places` the place among them of each
-/// state, first to last. What stood in the two before is taken out. Where memory is refused, neither says
-/// anything of the states.
+/// state, first to last. What stood in the two before is taken out. Where memory is refused, nothing is
+/// said of what the two hold, but that `steps` keeps its width.
 pub fn distinct(
     alloc: Global,
     states: &States,

@@ -1,11 +1,13 @@
 //! States: lists of properties, which join and cover property by property.
-ghost use Rattle.std.specs.Prelude.{◌≡◌, ◌<◌, ◌↔◌, [], ◌∷◌, ◌++◌, length, slice_set, IsTrue, IfOk, OnOk, OnErr};
+ghost use Rattle.std.specs.Prelude.{◌≡◌, ◌<◌, ◌↔◌, [], ◌∷◌, ◌++◌, ◌≤◌, length, drop, slice_set, IsTrue, IfOk, OnOk, OnErr};
 ghost use Rattle.hk_kinds.specs.Covers.{StateCovers, state_covers};
 ghost use Rattle.hk_kinds.specs.Joins.{state_join};
 ghost use Rattle.hk_kinds.specs.Orders.{state_order};
+ghost use Rattle.hk_kinds.specs.Parts.{with_part};
 ghost use Rattle.hk_kinds.specs.Shapes.{HasShape};
 ghost use Rattle.hk_kinds.specs.Tops.{top_state};
 
+use crate::flat::write_over;
 use crate::kinds::Kind;
 use crate::properties::{Prop, covers_property, join_properties};
 use crate::shapes::Shape1;
@@ -69,6 +71,18 @@ impl State {
         ensures { self.new ≡ slice_set self.old at property }
     {
         self.properties.as_mut_slice()[at] = property;
+    }
+
+    /// Writes properties over those from this place on; all others stay.
+    pub fn write_part(&mut self, first: usize, part: &StateView<'_>)
+        requires { length part.now ≤ length (drop first self.old) }
+        ensures { self.new ≡ with_part first part.now self.old }
+    {
+        let part = part.as_slice();
+        if part.is_empty() {
+            return;
+        }
+        write_over(self.properties.as_mut_slice(), first, part);
     }
 
     /// An equal state.

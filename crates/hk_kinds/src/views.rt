@@ -1,5 +1,5 @@
 //! Views of states, to read them: of a `State`, or of one state in a row of states.
-ghost use Rattle.std.specs.Prelude.{◌≡◌, ◌<◌, ◌≤◌, [], length, drop, slice_get, Some};
+ghost use Rattle.std.specs.Prelude.{◌≡◌, ◌≤◌, [], length, drop, slice_get};
 ghost use Rattle.hk_kinds.specs.Orders.{state_order};
 ghost use Rattle.hk_kinds.specs.Parts.{part_at};
 ghost use Rattle.hk_kinds.specs.Views.{number_of_property, low_of_property, high_of_property, set_of_property};
@@ -59,15 +59,6 @@ impl<'a> StateView<'a> {
         ensures { result ≡ length self.now }
     {
         self.properties.len()
-    }
-
-    /// The property at this place.
-    pub fn property(&self, at: usize) -> Prop
-        requires { at < length self.now }
-        ensures { slice_get self.now at ≡ Some result }
-    {
-        let properties = self.properties;
-        properties[at]
     }
 
     /// The number of the Min or Max property at this place; 0 where none stands.

@@ -25,7 +25,7 @@ use Rattle.hk_spec.specs.declared.arguments.Arg.{Arg}
 use Rattle.hk_spec.specs.declared.arguments.Arg.TheVariants as argument
 use Rattle.hk_spec.specs.declared.expressions.NumExpr.{NumExpr}
 use Rattle.hk_spec.specs.declared.expressions.Side.TheVariants.{Down}
-use Rattle.hk_lib.proofs.Counts.{ones_of_common}
+use Rattle.hk_spec.proofs.CommonBits.{ones_of_common}
 use Rattle.hk_lib.proofs.Rests.{first_left, next_left, left_within, none_left}
 
 -- the count of a list is that of its parts

@@ -7,11 +7,11 @@ ghost use Rattle.hk_spec.specs.Specifications.{BoundSpecification};
 ghost use Rattle.hk_spec.specs.Trees as tree;
 ghost use Rattle.hk_spec.specs.declared.arguments.Arg.TheVariants as argument;
 
-use hk_base::List;
+use hk_base::{List, list_of, pair};
 use hk_spec::{Arg, Bound, Bounds, Cond, NumExpr, Param, ParamKind, SetExpr, Side, Spec, StepExpr};
 use hk_trees::{
-    Added, Names, Rules, card, common, list_of, list_of_three, only_step_by, pair, param, spec_of,
-    total_test, totals,
+    Added, Names, Rules, card, common, list_of_three, only_step_by, param, spec_of, total_test,
+    totals,
 };
 use std::alloc::{AllocError, Global};
 

@@ -6,12 +6,11 @@ ghost use Rattle.hk_spec.specs.Library.{alldifferent_bound, alldifferent_spec, a
 ghost use Rattle.hk_spec.specs.Trees as tree;
 ghost use Rattle.hk_spec.specs.declared.parts.StepExpr.TheVariants as step;
 
-use hk_base::List;
+use hk_base::{List, list_of, pair};
 use hk_kinds::{Kind, Prop};
 use hk_spec::{Bound, Cond, NumExpr, PropDecl, SetExpr, Side, Spec, StepExpr};
 use hk_trees::{
-    Names, Rules, at_least, both, card, lacks, list_of, list_of_two, minus, pair, plus, property,
-    spec_of, union,
+    Names, Rules, at_least, both, card, lacks, list_of_two, minus, plus, property, spec_of, union,
 };
 use std::alloc::{AllocError, Global};
 

@@ -8,11 +8,10 @@ ghost use Rattle.hk_spec.specs.Trees as tree;
 ghost use Rattle.hk_spec.specs.declared.parts.StepExpr.TheVariants as step;
 
 use crate::counting::{counted, counted_twice, counting_args, counting_params};
-use hk_base::List;
+use hk_base::{List, list_of, pair};
 use hk_spec::{Bound, Cond, NumExpr, PropDecl, Side, Spec, StepExpr};
 use hk_trees::{
-    Names, Rules, at_most, below, both, either, interval, list_of, minus, only_step_by, pair, plus,
-    spec_of,
+    Names, Rules, at_most, below, both, either, interval, minus, only_step_by, plus, spec_of,
 };
 use std::alloc::{AllocError, Global};
 

@@ -9,12 +9,12 @@ ghost use Rattle.hk_spec.specs.Trees as tree;
 ghost use Rattle.hk_spec.specs.declared.arguments.Arg.TheVariants as argument;
 ghost use Rattle.hk_spec.specs.declared.parts.StepExpr.TheVariants as step;
 
-use hk_base::List;
+use hk_base::{List, list_of, pair};
 use hk_kinds::{Kind, Prop};
 use hk_spec::{Arg, Bound, Cond, NumExpr, Param, ParamKind, PropDecl, Side, Spec, StepExpr};
 use hk_trees::{
-    Added, Names, Rules, below, list_of, list_of_one, list_of_three, only_step_by, pair, param,
-    plus, plus_both, property, spec_of, times, total_test, totals,
+    Added, Names, Rules, below, list_of_one, list_of_three, only_step_by, param, plus, plus_both,
+    property, spec_of, times, total_test, totals,
 };
 use std::alloc::{AllocError, Global};
 

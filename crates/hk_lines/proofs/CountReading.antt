@@ -35,10 +35,6 @@ counting_said {names = names} {after = after} {rest = rest} scope set counts = r
   is_capped = λ i. record { names = names; set = set.is_capped i; least = (counts.is_capped i).first; most = (counts.is_capped i).last };
 }
 
--- without names, a set after them, or numbers after that, there is no counting
-pub no_names_counting : {texts : List (List ℕ)} → BeginsWithout NamesThen texts → AreNone AreCounting texts
-no_names_counting none counting x = none counting.names x.after x.scope
-
 pub no_set_counting : {texts names after : List (List ℕ)} → NamesThen texts names after → BeginsWithout SetThen after → AreNone AreCounting texts
 no_set_counting scope none counting x = none counting.set x.counts (subst (λ ts. SetThen ts counting.set x.counts) (names_one x.scope scope).1 x.set)
 
@@ -57,16 +53,6 @@ row_said {counts = counts} {digits = digits} parts number colon bounds = record 
   phrase = record { counts = counts; parts = parts ∙ ap (λ ts. digits ∷ ts) colon; value_is = number.number; bounds = bounds.phrase };
   is_capped = λ i. record { value = number.value_is i; digits = digits; least = (bounds.is_capped i).first; most = (bounds.is_capped i).last };
 }
-
--- without digits, a colon after them, or numbers after that, there is no row
-pub no_row_digits : {texts : List (List ℕ)} → ((digits : List ℕ) (n : ℕ) (rest : List (List ℕ)) → texts ≡ digits ∷ rest → IsNumber digits n → ⊥) → BeginsWithout RowThen texts
-no_row_digits none row rest x = none row.digits row.value _ x.parts x.value_is
-
-pub no_row_number : {texts after : List (List ℕ)} {digits : List ℕ} → texts ≡ digits ∷ after → ((n : ℕ) → IsNumber digits n → ⊥) → BeginsWithout RowThen texts
-no_row_number parts none row rest x = none row.value (subst (λ text. IsNumber text row.value) (same_first x.parts parts) x.value_is)
-
-pub no_row_colon : {texts after : List (List ℕ)} {digits : List ℕ} → texts ≡ digits ∷ after → ((rest : List (List ℕ)) → after ≡ codes ":" ∷ rest → ⊥) → BeginsWithout RowThen texts
-no_row_colon parts none row rest x = none x.counts (same_rest parts x.parts)
 
 pub no_row_counts : {texts after counts : List (List ℕ)} {digits : List ℕ} → texts ≡ digits ∷ after → after ≡ codes ":" ∷ counts → BeginsWithout RangeThen counts → BeginsWithout RowThen texts
 no_row_counts parts colon none row rest x =

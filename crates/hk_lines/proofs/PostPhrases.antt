@@ -122,20 +122,6 @@ module _ {texts : List (List ℕ)} where
         λ i. record { spec = spec; args = begins.is_capped i; names = names },
       )
 
-  -- without a word after `post` no post is said
-  pub no_word_no_post : BeginsWithout WordThen texts → SayNoPost (codes "post" ∷ texts)
-  no_word_no_post none post says = none post.spec (codes "(" ∷ says.more) (record { parts = same_rest refl says.parts; is_word = says.word })
-
-  -- nor without an opening parenthesis after the word
-  pub closed_no_post : {after : List (List ℕ)} {spec : List ℕ} → WordThen texts spec after → ((inner : List (List ℕ)) → after ≡ codes "(" ∷ inner → ⊥) → SayNoPost (codes "post" ∷ texts)
-  closed_no_post word none post says = none says.more (same_rest word.parts (same_rest refl says.parts))
-
-  -- nor without arguments
-  pub no_args_no_post : {after inner : List (List ℕ)} {spec : List ℕ} → WordThen texts spec after → after ≡ codes "(" ∷ inner → BeginsWithout ArgListThen inner → SayNoPost (codes "post" ∷ texts)
-  no_args_no_post word opens none post says =
-      let same = same_rest (same_rest word.parts (same_rest refl says.parts)) opens in
-      none post.args says.scope (subst (λ ts. ArgListThen ts post.args says.scope) same says.args)
-
   -- nor without a scope after them
   pub no_scope_no_post : {after inner scope : List (List ℕ)} {spec : List ℕ} {args : List ArgText} → WordThen texts spec after → after ≡ codes "(" ∷ inner → BeginsCapped ArgListThen (map capped_arg) inner args scope
       → ((names : List (List ℕ)) → IsWholeScope scope names → ⊥) → SayNoPost (codes "post" ∷ texts)

@@ -22,10 +22,6 @@ small_from_IsBegun p front valid begun k d within =
     subst (λ value. value < 128) (get_or_default front k 0 d within)
     (below_from_Has p k (slice_index front k) valid (let short = begun.short in omega arith) (begun.inside k within))
 
--- no variable has a value yet
-pub IsBegun-nil : (p : PlainProblem) → IsBegun p []
-IsBegun-nil p = record { short = omega arith; inside = λ variable within. absurd (omega arith) }
-
 -- one more variable gets a value of its set
 pub IsBegun-push : (p : PlainProblem) (front : List ℕ) (value : ℕ) → IsBegun p front → length front < length p.domains → Has (slice_index p.domains (length front)) value → IsBegun p (front ++ value ∷ [])
 IsBegun-push p front value begun more has = record {

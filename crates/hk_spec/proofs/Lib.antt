@@ -1,3 +1,4 @@
+pub mod CommonBits
 pub mod Lookups
 pub mod NodeScopes
 pub mod NodeSenses

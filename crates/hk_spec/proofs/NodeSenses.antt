@@ -30,9 +30,6 @@ sense_of read = read.sense
 pub num_sense-literal : (of : Kinds) (n : ℤ) → num_sense of (tree.literal n) ≡ Fixed
 num_sense-literal of n = ap sense_of (fold-roll-NumExpr NumReading (num_reading_step of) (NumExpr-F.Lit n))
 
-pub num_sense-value : (of : Kinds) → num_sense of tree.value ≡ Fixed
-num_sense-value of = ap sense_of (fold-roll-NumExpr NumReading (num_reading_step of) NumExpr-F.Value)
-
 pub num_sense-index : (of : Kinds) → num_sense of tree.index ≡ Fixed
 num_sense-index of = ap sense_of (fold-roll-NumExpr NumReading (num_reading_step of) NumExpr-F.Index)
 
@@ -44,9 +41,6 @@ num_sense-best of = ap sense_of (fold-roll-NumExpr NumReading (num_reading_step 
 
 pub num_sense-number_param : (of : Kinds) (place : ℕ) → num_sense of (tree.number_param place) ≡ Fixed
 num_sense-number_param of place = ap sense_of (fold-roll-NumExpr NumReading (num_reading_step of) (NumExpr-F.Param place))
-
-pub num_sense-item : (of : Kinds) (place : ℕ) → num_sense of (tree.item place) ≡ Fixed
-num_sense-item of place = ap sense_of (num_reading-item of place)
 
 pub num_sense-number : (of : Kinds) (side : Side) (place : ℕ) → num_sense of (tree.number side place) ≡ number_sense (kind_at of side place)
 num_sense-number of side place = ap sense_of (fold-roll-NumExpr NumReading (num_reading_step of) (NumExpr-F.Number side place))

@@ -7,13 +7,13 @@ ghost use Rattle.hk_spec.specs.Specifications.{IsBound, down_shape, up_shape};
 ghost use Rattle.hk_spec.specs.Steps.{down_part, up_part, down_step, up_step, test_passes};
 
 use crate::arguments::Arg;
-use crate::copies::{both, copy_list};
+use crate::copies::copy_list;
 use crate::runs::{accepts_between, initial_state, up_states};
 use crate::settings::Setting;
 use crate::specification::Spec;
 use crate::steps::write_steps;
 use crate::values::holds;
-use hk_base::List;
+use hk_base::{List, pair};
 use hk_kinds::{State, StateView};
 use std::alloc::{AllocError, Global};
 use std::marker::Model;
@@ -58,7 +58,7 @@ impl Bound {
     pub fn copy(&self, alloc: Global) -> Result<Bound, AllocError>
         ensures { IfOk result (λ bound. bound ≡ self.now) }
     {
-        match both(
+        match pair(
             self.spec.copy(alloc),
             copy_list(alloc, self.args.as_slice()),
         ) {
@@ -214,7 +214,7 @@ impl Bound {
     {
         let ups = up_states(alloc, self, values);
         let down = initial_state(alloc, self.spec.down.as_slice());
-        match both(ups, down) {
+        match pair(ups, down) {
             Ok((ups, down)) => accepts_between(self, values, best, ups, down),
             Err(refused) => Err(refused),
         }

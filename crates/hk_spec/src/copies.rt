@@ -1,11 +1,11 @@
 //! Equal values of trees and lists. What a failure leaves is dropped by a call: the drops that the
 //! compiler writes where a scope ends are proved anew at each way out, and cost the most of a proof.
-ghost use Rattle.std.specs.Prelude.{◌≡◌, [], ◌∷◌, ◌++◌, Ok, IfOk, OnOk};
+ghost use Rattle.std.specs.Prelude.{◌≡◌, [], ◌∷◌, ◌++◌, IfOk, OnOk};
 
 use crate::arguments::Arg;
 use crate::expressions::{Cond, NumExpr, SetExpr};
 use crate::parts::{Param, PropDecl, StepExpr};
-use hk_base::List;
+use hk_base::{List, list_of, pair};
 use sqlite_items::Boxed;
 use std::alloc::{AllocError, Global};
 
@@ -37,43 +37,6 @@ fn push_copy<T: Duplicate>(alloc: Global, copy: &mut List<T>, item: &T) -> Resul
     match item.duplicate(alloc) {
         Ok(item) => copy.push(item),
         Err(refused) => Err(refused),
-    }
-}
-
-/// An equal list of plain items, as bytes or numbers.
-pub fn copy_plain<T: Copy>(alloc: Global, items: &[T]) -> Result<List<T>, AllocError>
-    ensures { IfOk result (λ copy. copy ≡ items.now) }
-{
-    let mut copy = List::new(alloc);
-    match copy.push_all(items) {
-        Ok(()) => Ok(copy),
-        Err(refused) => {
-            drop(copy);
-            Err(refused)
-        }
-    }
-}
-
-/// Both of two values that are made, or the failure of the first that failed.
-pub fn both<A: Drop, B: Drop>(
-    first: Result<A, AllocError>,
-    second: Result<B, AllocError>,
-) -> Result<(A, B), AllocError>
-    ensures first { IfOk result (λ made. first ≡ Ok made.0) }
-    ensures second { IfOk result (λ made. second ≡ Ok made.1) }
-{
-    match first {
-        Err(refused) => {
-            drop(second);
-            Err(refused)
-        }
-        Ok(a) => match second {
-            Err(refused) => {
-                drop(a);
-                Err(refused)
-            }
-            Ok(b) => Ok((a, b)),
-        },
     }
 }
 
@@ -285,7 +248,7 @@ fn cond_boxes(
 impl Duplicate for Param {
     fn duplicate(&self, alloc: Global) -> Result<Param, AllocError> {
         Ok(Param {
-            name: copy_plain(alloc, self.name.as_slice())?,
+            name: list_of(alloc, self.name.as_slice())?,
             kind: self.kind,
         })
     }
@@ -294,7 +257,7 @@ impl Duplicate for Param {
 impl Duplicate for PropDecl {
     fn duplicate(&self, alloc: Global) -> Result<PropDecl, AllocError> {
         Ok(PropDecl {
-            name: copy_plain(alloc, self.name.as_slice())?,
+            name: list_of(alloc, self.name.as_slice())?,
             kind: self.kind,
             init: self.init,
         })
@@ -308,7 +271,7 @@ impl Duplicate for StepExpr {
                 Ok(e) => Ok(StepExpr::Num(e)),
                 Err(refused) => Err(refused),
             },
-            StepExpr::Pair(low, high) => match both(copy_num(alloc, low), copy_num(alloc, high)) {
+            StepExpr::Pair(low, high) => match pair(copy_num(alloc, low), copy_num(alloc, high)) {
                 Ok((low, high)) => Ok(StepExpr::Pair(low, high)),
                 Err(refused) => Err(refused),
             },
@@ -325,7 +288,7 @@ impl Duplicate for Arg {
         Ok(match self {
             Arg::Num(n) => Arg::Num(*n),
             Arg::Set(set) => Arg::Set(*set),
-            Arg::Nums(numbers) => Arg::Nums(copy_plain(alloc, numbers.as_slice())?),
+            Arg::Nums(numbers) => Arg::Nums(list_of(alloc, numbers.as_slice())?),
         })
     }
 }

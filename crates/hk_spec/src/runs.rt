@@ -8,8 +8,8 @@ ghost use Rattle.hk_spec.specs.Specifications.{initial_values, down_shape, up_sh
 ghost use Rattle.hk_spec.specs.Steps.{down_step, up_step};
 
 use crate::bindings::Bound;
-use crate::copies::both;
 use crate::parts::PropDecl;
+use hk_base::pair;
 use hk_kinds::State;
 use std::alloc::{AllocError, Global};
 
@@ -72,7 +72,7 @@ pub fn up_states(alloc: Global, bound: &Bound, values: &[u8]) -> Result<Vec<Stat
     ensures { IfOk result (λ ups. ups.items ≡ reverse (exact_ups bound.now 0 values.now)) }
 {
     let spec = &bound.spec;
-    let (mut ups, mut up) = both(
+    let (mut ups, mut up) = pair(
         Vec::with_capacity(alloc, values.len()),
         initial_state(alloc, spec.up.as_slice()),
     )?;

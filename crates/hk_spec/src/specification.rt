@@ -1,10 +1,10 @@
 //! Specifications, which keep their rules.
 ghost use Rattle.std.specs.Prelude.{◌≡◌, IfOk};
 
-use crate::copies::{both, copy_cond, copy_list, copy_plain};
+use crate::copies::{copy_cond, copy_list};
 use crate::expressions::Cond;
 use crate::parts::{Param, PropDecl, StepExpr};
-use hk_base::{Bytes, List};
+use hk_base::{Bytes, List, list_of, pair};
 use std::alloc::{AllocError, Global};
 use std::marker::Model;
 
@@ -62,7 +62,7 @@ impl Spec {
             self.down_step.as_slice(),
             self.up_step.as_slice(),
         );
-        match both(names, rules) {
+        match pair(names, rules) {
             Ok((((name, params), (down, up)), (test, (down_step, up_step)))) => Ok(Spec {
                 name,
                 params,
@@ -87,9 +87,9 @@ fn copy_names(
 ) -> Result<Names, AllocError>
     ensures { IfOk result (λ names. names ≡ ((name.now, params.now), (down.now, up.now))) }
 {
-    let words = both(copy_plain(alloc, name), copy_list(alloc, params));
-    let properties = both(copy_list(alloc, down), copy_list(alloc, up));
-    both(words, properties)
+    let words = pair(list_of(alloc, name), copy_list(alloc, params));
+    let properties = pair(copy_list(alloc, down), copy_list(alloc, up));
+    pair(words, properties)
 }
 
 /// An equal test, and equal steps of both sides.
@@ -101,6 +101,6 @@ fn copy_rules(
 ) -> Result<Rules, AllocError>
     ensures { IfOk result (λ rules. rules ≡ (test.now, (down_step.now, up_step.now))) }
 {
-    let steps = both(copy_list(alloc, down_step), copy_list(alloc, up_step));
-    both(copy_cond(alloc, test), steps)
+    let steps = pair(copy_list(alloc, down_step), copy_list(alloc, up_step));
+    pair(copy_cond(alloc, test), steps)
 }

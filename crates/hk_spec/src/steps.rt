@@ -1,8 +1,11 @@
 //! The steps of a state, written in place.
 ghost use Rattle.std.specs.Prelude.{◌≡◌, ◌≤◌, length, map, drop};
 ghost use Rattle.hk_kinds.specs.Parts.{with_part};
+ghost use Rattle.hk_kinds.specs.declared.properties.Prop.TheVariants.{Pair};
 ghost use Rattle.hk_spec.specs.Steps.{step_value};
+ghost use Rattle.hk_spec.specs.Values.{num_value};
 
+use crate::expressions::NumExpr;
 use crate::parts::StepExpr;
 use crate::settings::Setting;
 use crate::values::{num_value, set_value};
@@ -14,8 +17,32 @@ pub fn step_value(e: &StepExpr, at: &Setting<'_>) -> Prop
 {
     match e {
         StepExpr::Num(e) => Prop::Num(num_value(e, at)),
-        StepExpr::Pair(low, high) => Prop::Pair(num_value(low, at), num_value(high, at)),
+        StepExpr::Pair(low, high) => pair_value(low, high, at),
         StepExpr::Set(e) => Prop::Bits(set_value(e, at)),
+    }
+}
+
+/// The value of a pair. Most pairs copy a property, as a register that shifts does: reads of its two
+/// numbers need no walk of a tree.
+fn pair_value(low: &NumExpr, high: &NumExpr, at: &Setting<'_>) -> Prop
+    ensures { result ≡ Pair (num_value at.now low.now) (num_value at.now high.now) }
+{
+    match low {
+        NumExpr::Low(side, place) => Prop::Pair(
+            at.state(*side).low(usize::from(*place)),
+            high_value(high, at),
+        ),
+        _ => Prop::Pair(num_value(low, at), num_value(high, at)),
+    }
+}
+
+/// The value of a number expression that mostly reads the second number of a pair.
+fn high_value(high: &NumExpr, at: &Setting<'_>) -> i64
+    ensures { result ≡ num_value at.now high.now }
+{
+    match high {
+        NumExpr::High(side, place) => at.state(*side).high(usize::from(*place)),
+        _ => num_value(high, at),
     }
 }
 

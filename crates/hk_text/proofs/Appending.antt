@@ -46,10 +46,6 @@ module _ {A : Type 0} where
   pub Appended-all : (old new whole : List A) → Appended old new whole [] → new ≡ old ++ whole
   Appended-all old new whole before = before.appended ∙ ap (λ xs. old ++ xs) (sym (append-nil before.done) ∙ sym before.parts)
 
-  -- a front is appended where no more comes
-  pub AppendsFront-stopped : (old new whole left : List A) → Appended old new whole left → AppendsFront old new whole
-  AppendsFront-stopped old new whole left before = record { front = before.done; is_front = record { rest = left; parts = before.parts }; appended = before.appended }
-
   -- a front is appended where only a front of the next piece comes
   pub AppendsFront-piece : (old middle new whole piece left : List A) → Appended old middle whole (piece ++ left) → AppendsFront middle new piece → AppendsFront old new whole
   AppendsFront-piece old middle new whole piece left before part =

@@ -5,10 +5,10 @@ ghost use Rattle.hk_spec.specs.Library.{interval_named};
 ghost use Rattle.hk_spec.specs.Trees as tree;
 ghost use Rattle.hk_spec.specs.declared.parts.StepExpr.TheVariants as step;
 
-use crate::pairs::{list_of_one, pair};
+use crate::lists::list_of_one;
 use crate::specifications::interval;
 use crate::trees::{at_most, both, plus, plus_both};
-use hk_base::List;
+use hk_base::{List, pair};
 use hk_spec::{Cond, NumExpr, PropDecl, Side, StepExpr};
 use std::alloc::{AllocError, Global};
 

@@ -4,12 +4,12 @@
 #![tactic(auto)]
 
 mod intervals;
-mod pairs;
+mod lists;
 mod specifications;
 mod trees;
 
 pub use intervals::{Added, only_step_by, step_by, total_test, totals};
-pub use pairs::{list_of, list_of_one, list_of_three, list_of_two, pair, with_item};
+pub use lists::{list_of_one, list_of_three, list_of_two, with_item};
 pub use specifications::{Names, Rules, interval, param, property, spec_of};
 pub use trees::{
     at_least, at_most, below, both, card, common, either, lacks, minus, plus, plus_both, times,

@@ -4,8 +4,7 @@ ghost use Rattle.std.specs.Prelude.{◌≡◌, ℤ, pos, [], ◌∷◌, codes, O
 ghost use Rattle.hk_spec.specs.Library.{all_named, interval_named, list_named, min_named, number_named, set_named, some_named};
 ghost use Rattle.hk_spec.specs.Specifications.{IsSpecification};
 
-use crate::pairs::list_of;
-use hk_base::{Bytes, List};
+use hk_base::{Bytes, List, list_of};
 use hk_kinds::{Kind, Prop};
 use hk_spec::{Cond, Param, ParamKind, PropDecl, Spec, StepExpr};
 use std::alloc::{AllocError, Global};

@@ -2,7 +2,7 @@
 ghost use Rattle.std.specs.Prelude.{◌≡◌, Ok, IfOk};
 ghost use Rattle.hk_spec.specs.Trees.{at_least, at_most, below, both, card, common, either, lacks, minus, plus, times, union};
 
-use crate::pairs::pair;
+use hk_base::pair;
 use hk_spec::{Cond, NumExpr, SetExpr};
 use sqlite_items::Boxed;
 use std::alloc::{AllocError, Global};

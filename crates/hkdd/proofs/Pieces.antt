@@ -29,14 +29,6 @@ goes_on old now next text more count so_far piece = record {
   can_read = CanRead-after now next Model piece.took.opened so_far.can_read;
 }
 
--- what was taken so far is no more than may be
-pub TookFew-reached : (old now : View) (text : List ℕ) → Reached old now text → TookFew [] old now
-TookFew-reached old now text so_far = record {
-  taken = text;
-  took = so_far.took;
-  few = let within = so_far.within in omega arith;
-}
-
 -- what was taken so far, and of the next piece
 pub TookFew-then : (old now new : View) (text : List ℕ) → Reached old now text → TookFew text now new → TookFew [] old new
 TookFew-then old now new text so_far piece = record {

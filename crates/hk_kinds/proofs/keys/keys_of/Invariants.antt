@@ -1,4 +1,4 @@
-use Rattle.hk_kinds.specs.Keys.{AreKeysOf}
+use Rattle.hk_kinds.specs.inside.Keys.{AreKeysOf}
 use Rattle.hk_kinds.proofs.keys.keys_of.Given as goal
 
 -- the keys of so many rows are made

@@ -1,6 +1,6 @@
 use Rattle.std.proofs.Common.{◌≡◌, ◌-◌, ◌<◌, [], length, get_or, arith, ap, sym, ◌∙◌, subst}
 use Rattle.hk_kinds.specs.Distinct.{insert_state}
-use Rattle.hk_kinds.specs.Keys.{IsLast, key_numbers}
+use Rattle.hk_kinds.specs.inside.Keys.{IsLast, key_numbers}
 use Rattle.hk_kinds.specs.Orders.{state_order}
 use Rattle.hk_kinds.proofs.KeyLaws.{length_numbers, number_at, number_within}
 use Rattle.hk_kinds.proofs.LastStates.{last_of}

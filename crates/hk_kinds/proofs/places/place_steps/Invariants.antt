@@ -1,5 +1,5 @@
 use Rattle.std.proofs.Common.{◌≡◌}
-use Rattle.hk_kinds.specs.Keys.{key_numbers}
+use Rattle.hk_kinds.specs.inside.Keys.{key_numbers}
 use Rattle.hk_kinds.proofs.PlaceSteps.{TakenUpTo}
 use Rattle.hk_kinds.proofs.places.place_steps.Given as goal
 

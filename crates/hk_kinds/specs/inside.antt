@@ -1,0 +1,2 @@
+-- Definitions that only contracts within the crate cite.
+pub mod Keys
