@@ -1,19 +1,18 @@
 -- What the tests of an among, a sequence and a gcc find in what was read.
-use Rattle.std.proofs.Common.{◌≡◌, ◌≢◌, ℕ, ◌+◌, ◌<◌, ◌≤◌, List, [], ◌∷◌, ◌++◌, length, get_or, map, take, refl, sym, ap, subst, ◌∙◌, arith}
-use Rattle.std.specs.Prelude.{All, Any, AllPairs}
-use Rattle.std.proofs.lemmas.List.{get_or-take, get_or-map, length-map, length-take, map-append, take_more}
-use Rattle.std.proofs.lemmas.List.Elements.{All-nil, All-cons, All-head, All-tail, All-map}
-use Rattle.std.proofs.lemmas.List.Quantifiers.{all_pairs_push}
+use Rattle.std.proofs.Common.{◌≡◌, Bor, ℕ, ◌+◌, ◌<◌, ◌≤◌, List, [], ◌∷◌, ◌++◌, length, get_or, map, take, sym, ap, subst, ◌∙◌}
+use Rattle.std.specs.Prelude.{All}
+use Rattle.std.proofs.lemmas.List.{get_or-map, length-map, map-append, take_more}
+use Rattle.std.proofs.lemmas.List.Elements.{All-nil, All-cons, All-head, All-tail}
+use Rattle.std.proofs.lemmas.Simd.{map-map}
 use Rattle.hk_group.specs.Limits.{value_count, most_constraints}
 use Rattle.hk_group.specs.Problems.{PlainProblem}
 use Rattle.hk_lines.specs.declared.counts.Counting.{Counting as ReadCounting}
 use Rattle.hk_lines.specs.declared.counts.Row.{Row as ReadRow}
 use Rattle.hk_lines.specs.Plain.{plain_counting, plain_row, rows_of}
-use Rattle.hk_draft.specs.Declares.{IsSmallRow, row_digits, AreOnce, made_row}
+use Rattle.hk_draft.specs.Declares.{IsSmallRow, row_digits, made_row}
 use Rattle.hk_draft.specs.Limits.{most_times}
 use Rattle.hk_draft.specs.inside.Fits.{FitsCounting}
 use Rattle.hk_draft.proofs.SmallSets.{AreSmallValues, small_items, items_small}
-use Rattle.hk_lines.proofs.Elements.{each_from_none}
 
 -- what was read of a counting fits where its parts do
 pub counting_fits : (counting : ReadCounting) (before : PlainProblem) → length before.constraints < most_constraints → AreSmallValues counting.set → counting.least ≤ most_times → counting.most ≤ most_times → FitsCounting (plain_counting counting) before
@@ -56,32 +55,6 @@ made_more rows i d within =
     ∙ ap (map made_row) (map-append plain_row (take i rows) (get_or rows i d ∷ []))
     ∙ map-append made_row (rows_of (take i rows)) (plain_row (get_or rows i d) ∷ [])
 
--- the digits of a row that was read
-abbrev pub digits_of : ReadRow → List ℕ
-digits_of row = row.digits.now
-
-digits_read : (rows : List ReadRow) → row_digits (rows_of rows) ≡ map digits_of rows
-digits_read [] = refl
-digits_read (row ∷ rows) = ap (λ texts. row.digits.now ∷ texts) (digits_read rows)
-
--- rows are still of different values with one more whose digits aren't listed
-pub once_more : (rows : List ReadRow) (i : ℕ) (d : ReadRow) → i < length rows → AreOnce (rows_of (take i rows)) → (Any (λ row. row.digits.now ≡ (get_or rows i d).digits.now) (take i rows) → ⊥) → AreOnce (rows_of (take (i + 1) rows))
-once_more rows i d within once none =
-    let digits = digits_of (get_or rows i d) in
-    let others = take i rows in
-    let apart : All (λ row. digits_of row ≢ digits) others = each_from_none (λ row. digits_of row ≢ digits) (λ row. digits_of row ≡ digits) (λ row differ. differ) others none in
-    let each : All (λ text. text ≢ digits) (map digits_of others) = All-map (λ text. text ≢ digits) digits_of others apart in
-    let before : AllPairs (λ a b. a ≢ b) (map digits_of others) = subst (AllPairs (λ a b. a ≢ b)) (digits_read others) once in
-    let parts : row_digits (rows_of (take (i + 1) rows)) ≡ map digits_of others ++ digits ∷ [] = digits_read (take (i + 1) rows) ∙ ap (map digits_of) (take_more rows i d within) ∙ map-append digits_of others (get_or rows i d ∷ []) in
-    subst (AllPairs (λ a b. a ≢ b)) (sym parts) (all_pairs_push (λ a b. a ≢ b) (map digits_of others) digits before (λ k e below. each k e below))
-
--- a row whose digits are listed before it lists a value twice
-pub twice_listed : (rows : List ReadRow) (i : ℕ) (d : ReadRow) → i < length rows → Any (λ row. row.digits.now ≡ (get_or rows i d).digits.now) (take i rows) → AreOnce (rows_of rows) → ⊥
-twice_listed rows i d within (k, row, below, at, same) once =
-    let texts : AllPairs (λ a b. a ≢ b) (map digits_of rows) = subst (AllPairs (λ a b. a ≢ b)) (digits_read rows) once in
-    let long : length (map digits_of rows) ≡ length rows = length-map rows digits_of in
-    let less : k < i = omega (arith, below, length-take i rows, within) in
-    let there : get_or rows k row ≡ row = sym (get_or-take i rows k row less) ∙ at in
-    let first : get_or (map digits_of rows) k (digits_of d) ≡ digits_of row = get_or-map digits_of rows k row (digits_of d) (omega (arith, less, within)) ∙ ap digits_of there in
-    let second : get_or (map digits_of rows) i (digits_of d) ≡ digits_of (get_or rows i d) = get_or-map digits_of rows i d (digits_of d) within in
-    texts k i (digits_of d) less (omega (arith, within, long)) (first ∙ same ∙ sym second)
+-- the digits of rows, as they were read
+pub digits_read : (rows : List ReadRow) (texts : List (Bor (List ℕ))) → texts ≡ map (λ row. row.digits) rows → map (λ text. text.now) texts ≡ row_digits (rows_of rows)
+digits_read rows texts are = ap (map (λ (text : Bor (List ℕ)). text.now)) are ∙ map-map _ _ rows ∙ sym (map-map _ _ rows)

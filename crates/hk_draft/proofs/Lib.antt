@@ -12,6 +12,7 @@ pub mod OneEffect
 pub mod Places
 pub mod ScopeLengths
 pub mod SmallSets
+pub mod SortedTexts
 pub mod Standing
 pub mod StatementFaults
 pub mod ValidRows

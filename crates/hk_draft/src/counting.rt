@@ -1,9 +1,9 @@
 //! What `among`, `sequence` and `gcc` declare.
 
-ghost use Rattle.std.specs.Prelude.{◌≡◌, ◌<◌, ◌≤◌, ◌↔◌, false, map, All, Any, Some, IfOk, IfErr, IsTrue, OnOk};
+ghost use Rattle.std.specs.Prelude.{◌≡◌, ◌<◌, ◌≤◌, ◌↔◌, false, map, All, Some, IfOk, IfErr, IsTrue, OnOk};
 ghost use Rattle.hk_lines.specs.Plain.{plain_counting, plain_row, rows_of};
 ghost use Rattle.hk_lines.specs.Statements.{Among, Sequence, Gcc};
-ghost use Rattle.hk_draft.specs.Declares.{IsSmallRow, IsWindow, AreOnce, made_row};
+ghost use Rattle.hk_draft.specs.Declares.{IsSmallRow, IsWindow, made_row};
 ghost use Rattle.hk_draft.specs.Limits.{most_times};
 ghost use Rattle.hk_group.specs.Limits.{value_count};
 ghost use Rattle.hk_draft.specs.Faults.{IsStatementFault};
@@ -13,10 +13,11 @@ use crate::draft::Draft;
 use crate::faults::LineFault;
 use crate::kinds::RefusalKind;
 use crate::limits::is_small_set;
-use crate::scopes::{is_rising, places_of};
+use crate::repeats::are_once;
+use crate::scopes::places_of;
 use hk_base::List;
-use hk_group::Constraint;
 use hk_group::limits::{CONSTRAINTS, VALUES, WINDOW};
+use hk_group::{Constraint, is_rising};
 use hk_lines::{Counting, Row, set_of_values};
 use std::alloc::{AllocError, Global};
 
@@ -117,11 +118,11 @@ pub fn declare_gcc(
     ensures ok { OnOk result (AddsGcc (map (λ name. name.now) names.now) (rows_of rows.now) draft.old draft.new) }
     ensures err { IfErr result (IsStatementFault (Some draft.old) (Gcc (map (λ name. name.now) names.now) (rows_of rows.now))) }
 {
-    let scope = places_of(alloc, draft, names)?;
-    if !are_once(rows) {
-        drop(scope);
+    let once = are_once(alloc, rows)?;
+    if !once {
         return Err(LineFault::Bad(RefusalKind::Name));
     }
+    let scope = places_of(alloc, draft, names)?;
     if !rows_fit(draft, rows) {
         drop(scope);
         return Err(LineFault::Bad(RefusalKind::Limit));
@@ -140,27 +141,6 @@ pub fn declare_gcc(
             Err(LineFault::NoMemory)
         }
     }
-}
-
-/// Whether no value is listed twice.
-fn are_once(rows: &[Row<'_>]) -> bool
-    ensures once { IsTrue result → AreOnce (rows_of rows.now) }
-    ensures twice { result ≡ false → AreOnce (rows_of rows.now) → ⊥ }
-{
-    for place in 0..rows.len() {
-        let (before, _) = rows.split_at(place);
-        if is_listed(before, rows[place].digits) {
-            return false;
-        }
-    }
-    true
-}
-
-/// Whether a row's value has these digits.
-fn is_listed(rows: &[Row<'_>], digits: &[u8]) -> bool
-    ensures { IsTrue result ↔ Any (λ row. row.digits.now ≡ digits.now) rows.now }
-{
-    rows.iter().any(|row| row.digits == digits)
 }
 
 /// Whether there is room for the constraint, and its rows are within the limits.

@@ -14,9 +14,9 @@ use crate::draft::Draft;
 use crate::faults::LineFault;
 use crate::kinds::RefusalKind;
 use crate::limits::is_within_limit;
-use crate::scopes::{coefs_of, is_rising, places_of, term_places};
+use crate::scopes::{coefs_of, places_of, term_places};
 use hk_group::limits::{COEFFICIENT, CONSTRAINTS, NAME_BYTES, VALUES, VARIABLES};
-use hk_group::{Constraint, Linear};
+use hk_group::{Constraint, Linear, is_rising};
 use hk_lines::{Shape, Term, Values, set_of_values};
 use std::alloc::Global;
 

@@ -7,7 +7,7 @@ pub use draft::Draft;
 pub use faults::LineFault;
 pub use kinds::RefusalKind;
 pub use limits::{is_small_set, is_within_limit};
-pub use scopes::{is_rising, places_of};
+pub use scopes::places_of;
 
 mod counting;
 mod declaring;
@@ -15,4 +15,5 @@ mod draft;
 mod faults;
 mod kinds;
 mod limits;
+mod repeats;
 mod scopes;

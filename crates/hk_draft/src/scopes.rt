@@ -1,7 +1,6 @@
 //! The scope of a statement, by the names that it uses.
 
-ghost use Rattle.std.specs.Prelude.{◌≡◌, ◌↔◌, map, IfOk, IfErr, IsTrue};
-ghost use Rattle.std.specs.List.Sorted.{IsStrictlyIncreasing};
+ghost use Rattle.std.specs.Prelude.{◌≡◌, map, IfOk, IfErr};
 ghost use Rattle.hk_draft.specs.Declares.{ArePlacesOf, term_coefs, term_names};
 ghost use Rattle.hk_lines.specs.Plain.{terms_of};
 ghost use Rattle.hk_draft.specs.Faults.{IsPlaceFault};
@@ -54,11 +53,4 @@ pub fn coefs_of(alloc: Global, terms: &[Term<'_>]) -> Result<List<i64>, AllocErr
         coefs.push(term.coef)?;
     }
     Ok(coefs)
-}
-
-/// Whether each place is below the next.
-pub fn is_rising(scope: &[u16]) -> bool
-    ensures { IsTrue result ↔ IsStrictlyIncreasing scope.now }
-{
-    scope.windows(2).all(|pair| pair[0] < pair[1])
 }

@@ -13,9 +13,6 @@ pub record DownsToBegin (parts : List Part) (k first : ℕ) (to : List Prop) : T
   pub room : length to ≡ first + length (down_shape_of (drop k parts))
   pub whole : length to ≡ length (down_shape_of parts)
 
-pub downs_first : (parts : List Part) (to : List Prop) → length to ≡ length (down_shape_of parts) → DownsToBegin parts 0 0 to
-downs_first parts to long = record { due = refl; room = omega arith; whole = long }
-
 pub downs_last : (parts : List Part) (k first : ℕ) (to : List Prop) → DownsToBegin parts k first to → length parts ≤ k → to ≡ initial_down_of parts
 downs_last parts k first to left end =
     let none : drop k parts ≡ [] = drop_all k parts end in
@@ -56,9 +53,6 @@ pub record UpsToBegin (parts : List Part) (k first : ℕ) (to : List Prop) : Typ
   pub due : initial_up_of parts ≡ take first to ++ initial_up_of (drop k parts)
   pub room : length to ≡ first + length (up_shape_of (drop k parts))
   pub whole : length to ≡ length (up_shape_of parts)
-
-pub ups_first : (parts : List Part) (to : List Prop) → length to ≡ length (up_shape_of parts) → UpsToBegin parts 0 0 to
-ups_first parts to long = record { due = refl; room = omega arith; whole = long }
 
 pub ups_last : (parts : List Part) (k first : ℕ) (to : List Prop) → UpsToBegin parts k first to → length parts ≤ k → to ≡ initial_up_of parts
 ups_last parts k first to left end =

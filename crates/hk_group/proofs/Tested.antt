@@ -19,12 +19,6 @@ pub record TestsLeft (parts : List Part) (places : List (Option ℕ)) (value : �
   pub down_within : first_down ≤ length down
   pub up_within : first_up ≤ length up
 
-pub tests_begin : (parts : List Part) (places : List (Option ℕ)) (value : ℕ) (best : ℤ) (down up : List Prop) → HasShape (down_shape_of parts) down → HasShape (up_shape_of parts) up → ArePlaces parts places → TestsLeft parts places value best down up 0 0 0
-tests_begin parts places value best down up down_shape up_shape fit = record { due = refl; down_shape = down_shape; up_shape = up_shape; fit = fit; down_within = omega arith; up_within = omega arith }
-
-pub tests_end : (parts : List Part) (places : List (Option ℕ)) (value : ℕ) (best : ℤ) (down up : List Prop) (k first_down first_up : ℕ) → TestsLeft parts places value best down up k first_down first_up → length parts ≤ k → true ≡ passes_by parts places value best down up
-tests_end parts places value best down up k first_down first_up left end = sym (left.due ∙ ap (λ l. passes_by l (drop k places) value best (drop first_down down) (drop first_up up)) (drop_all k parts end))
-
 module _ (parts : List Part) (places : List (Option ℕ)) (value : ℕ) (best : ℤ) (down up : List Prop) (k first_down first_up : ℕ) (left : TestsLeft parts places value best down up k first_down first_up) (within : k < length parts) (part : Part) (is : part ≡ get_or parts k part) where
   parts_left : drop k parts ≡ part ∷ drop (k + 1) parts
   parts_left = left_of parts k part within is
@@ -65,9 +59,6 @@ module _ (parts : List Part) (places : List (Option ℕ)) (value : ℕ) (best : 
         ∙ (ap (λ l. passes_by (part ∷ drop (k + 1) parts) l value best (drop first_down down) (drop first_up up)) places_left
         ∙ (ap (λ s. passes_at part place value best (part_at first_down (down_width part) down) (part_at first_up (up_width part) up) && passes_by (drop (k + 1) parts) (drop (k + 1) places) value best s (drop (up_width part) (drop first_up up))) (drop-drop (down_width part) first_down down)
         ∙ ap (λ s. passes_at part place value best (part_at first_down (down_width part) down) (part_at first_up (up_width part) up) && passes_by (drop (k + 1) parts) (drop (k + 1) places) value best (drop (first_down + down_width part) down) s) (drop-drop (up_width part) first_up up))))
-
-    pub test_fails : (answer : Bool) → answer ≡ passes_at part place value best (part_at first_down (down_width part) down) (part_at first_up (up_width part) up) → answer ≡ false → false ≡ passes_by parts places value best down up
-    test_fails answer tested fails = sym (test_is ∙ ap (λ b. b && passes_by (drop (k + 1) parts) (drop (k + 1) places) value best (drop (first_down + down_width part) down) (drop (first_up + up_width part) up)) (sym tested ∙ fails))
 
     pub test_turn : (answer : Bool) (downs ups : ℕ) → answer ≡ passes_at part place value best (part_at first_down (down_width part) down) (part_at first_up (up_width part) up) → answer ≡ true → downs ≡ down_width part → ups ≡ up_width part → TestsLeft parts places value best down up (k + 1) (first_down + downs) (first_up + ups)
     test_turn answer downs ups tested holds many more =

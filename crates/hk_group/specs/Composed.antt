@@ -1,5 +1,5 @@
 -- What a group is composed of, and what is kept of it so that a step looks nothing up.
-use Rattle.std.specs.Prelude.{◌≡◌, ℕ, List, [], ◌∷◌, ◌++◌, length, map, Any, Option}
+use Rattle.std.specs.Prelude.{◌≡◌, ℕ, List, [], ◌∷◌, ◌++◌, length, map, All, Any, Option}
 use Rattle.std.specs.List.{AllZip}
 use Rattle.std.specs.List.Sorted.{IsStrictlyIncreasing}
 use Rattle.hk_kinds.specs.declared.kinds.Kind.{Kind}
@@ -22,10 +22,10 @@ pub record IsComposed (bounds : List BoundSpecification) (scopes : List (List �
   pub parts : g.parts ≡ parts_of bounds scopes
   pub rules : IsGroup g
 
--- why no group was composed: a scope does not rise, or there was no memory
+-- why no group was composed: a scope does not rise; or all do, and there was no memory
 pub data IsGroupFault (scopes : List (List ℕ)) : GroupFault → Type 0 where
   not_rising : Any (λ scope. IsStrictlyIncreasing scope → ⊥) scopes → IsGroupFault scopes fault.Scope
-  no_memory : IsGroupFault scopes fault.Memory
+  no_memory : All IsStrictlyIncreasing scopes → IsGroupFault scopes fault.Memory
 
 -- the places of a variable in the scopes of parts
 abbrev pub places_of : List Part → ℕ → List (Option ℕ)

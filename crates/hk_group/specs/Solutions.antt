@@ -6,6 +6,7 @@ use Rattle.hk_group.specs.declared.problem.Constraint.TheVariants.{AllDifferent,
 use Rattle.hk_group.specs.declared.linear.Linear.{Linear}
 use Rattle.hk_spec.specs.Meanings.{AreAmong, AreDifferent, EachOccurs, EachWindow, SumLies, weighted_sum}
 use Rattle.hk_spec.specs.Runs.{Accepts}
+use Rattle.hk_spec.specs.Specifications.{BoundSpecification}
 use Rattle.hk_group.specs.Problems.{PlainProblem}
 
 -- the values of a scope's variables, in the order of the scope
@@ -25,6 +26,10 @@ Holds values (Sequence scope window set least most) = EachWindow window set leas
 Holds values (Gcc scope rows) = EachOccurs rows (scope_values scope values)
 Holds values (Sum scope coefs least most) = SumLies coefs least most (scope_values scope values)
 Holds values (User bound scope) = Accepts bound (pos 0) (scope_values scope values)
+
+-- the constraint is one of a specification that the user wrote
+pub data IsUsers : Constraint → Type 0 where
+  is_users : {bound : BoundSpecification} {scope : List ℕ} → IsUsers (User bound scope)
 
 -- each variable has one of its values, and every constraint holds
 pub record IsSolution (p : PlainProblem) (values : List ℕ) : Type 0 where

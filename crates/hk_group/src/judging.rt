@@ -1,8 +1,8 @@
 //! Whether values make the constraints hold, and what they cost.
 
-ghost use Rattle.std.specs.Prelude.{◌≡◌, ◌≢◌, ◌<◌, ◌≤◌, ◌↔◌, length, All, AllPairs, IfOk, IfSome, IsSome, IsTrue};
+ghost use Rattle.std.specs.Prelude.{◌≡◌, ◌≢◌, ◌<◌, ◌≤◌, ◌↔◌, length, All, AllPairs, Any, IfOk, IfErr, IfSome, IsSome, IsTrue};
 ghost use Rattle.hk_group.specs.Problems.{IsConstraint};
-ghost use Rattle.hk_group.specs.Solutions.{scope_values, Holds, cost_of};
+ghost use Rattle.hk_group.specs.Solutions.{scope_values, Holds, IsUsers, cost_of};
 ghost use Rattle.hk_group.specs.Limits.{most_variables, value_count};
 
 use crate::counting::{count_in, each_occurs, each_window, lies_from};
@@ -14,13 +14,14 @@ use std::alloc::{AllocError, Global};
 
 /// What the values cost, where they make every constraint of the problem hold, and else None.
 /// There is one value below 128 for each variable; whether it is in the variable's set isn't asked.
-/// No cost and no sum is more than 32,512,000,000 in size. Fails only for want of memory, which a
-/// specification's states take.
+/// No cost and no sum is more than 32,512,000,000 in size. Fails only for want of memory, which
+/// the states of a user's specification take: the library's constraints are judged without states.
 pub fn judge(alloc: Global, problem: &Problem, values: &[u8]) -> Result<Option<i64>, AllocError>
     requires one_each { length values.now ≡ length problem.now.domains }
     requires small { All (λ value. value < value_count) values.now }
     ensures holds { IfOk result (λ cost. IsSome cost ↔ All (Holds values.now) problem.now.constraints) }
     ensures cost { IfOk result (λ found. IfSome found (λ cost. cost ≡ cost_of problem.now values.now)) }
+    ensures err { IfErr result (λ refused. Any IsUsers problem.now.constraints) }
 {
     for constraint in problem.constraints() {
         if !holds(alloc, constraint, values)? {
@@ -34,7 +35,8 @@ fn holds(alloc: Global, constraint: &Constraint, values: &[u8]) -> Result<bool, 
     requires scope { IsConstraint (length values.now) constraint.now }
     requires few { length values.now ≤ most_variables }
     requires small { All (λ value. value < value_count) values.now }
-    ensures { IfOk result (λ found. IsTrue found ↔ Holds values.now constraint.now) }
+    ensures ok { IfOk result (λ found. IsTrue found ↔ Holds values.now constraint.now) }
+    ensures err { IfErr result (λ refused. IsUsers constraint.now) }
 {
     match constraint {
         Constraint::AllDifferent { scope } => Ok(are_different(scope.as_slice(), values)),

@@ -68,14 +68,6 @@ module _ (line : List ℕ) (tokens : List Token) (split : AreTokensOf line token
   pub has_texts : HasTexts line (texts_of line tokens)
   has_texts = record { tokens = tokens; split = split; texts_are = refl }
 
-  -- a line without tokens has no effect
-  pub empty_line : (before : Declared) → length tokens ≡ 0 → IsGoodLine before line before
-  empty_line before none = good_empty (record { tokens = tokens; split = split; texts_are = ap (texts_of line) (nil_from_length tokens none) })
-
-  -- a line with tokens has texts
-  pub texts_some : length tokens ≢ 0 → texts_of line tokens ≢ []
-  texts_some some none = some (sym (length-map tokens (text_of line)) ∙ ap length none)
-
 -- texts that mean something are some
 pub means_some : {before : Declared} {texts : List (List ℕ)} {m : Meaning} → Means before texts m → texts ≢ []
 means_some {before = before} {m = m} means none = nothing_means (subst (λ texts. Means before texts m) none means)

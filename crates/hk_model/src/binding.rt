@@ -9,11 +9,9 @@ ghost use Rattle.hk_group.specs.Problems.{IsWithin};
 ghost use Rattle.hk_spec.specs.Specifications.{param_kinds};
 
 use hk_base::List;
-use hk_draft::{
-    Draft, LineFault, RefusalKind, is_rising, is_small_set, is_within_limit, places_of,
-};
-use hk_group::Constraint;
+use hk_draft::{Draft, LineFault, RefusalKind, is_small_set, is_within_limit, places_of};
 use hk_group::limits::{COEFFICIENT, CONSTRAINTS, VALUES};
+use hk_group::{Constraint, is_rising};
 use hk_lines::{PostArg, PostShape, Values, set_of_values};
 use hk_spec::{Arg, Bound, Param, ParamKind, Spec};
 use std::alloc::{AllocError, Global};
@@ -190,7 +188,7 @@ fn bind(alloc: Global, spec: &Spec, args: &[PostArg], len: u16) -> Result<Bound,
     let _ = &spec.name;
     let args = bound_args(alloc, args)?;
     match spec.copy(alloc) {
-        Ok(spec) => Ok(Bound { spec, args, len }),
+        Ok(spec) => Ok(Bound::new(spec, args, len)),
         Err(failed) => {
             drop(args);
             Err(failed)

@@ -13,12 +13,12 @@ returns-in_err-scope-clause-err c =
     let fault = place_fault c.args.draft.now (Gcc (map (λ name. name.now) c.args.names.now) (rows_of c.args.rows.now)) c.in_err-scope.field-0.0 c.in_err-scope.ensures.err in
     search (rules, fault)
 
-pub returns-then-not-are_once-clause-err : goal.returns-then-not-are_once-clause-err
-returns-then-not-are_once-clause-err c = listed_twice (c.are_once.ensures.twice c.if-not-are_once.true)
+pub returns-then-not-once-clause-err : goal.returns-then-not-once-clause-err
+returns-then-not-once-clause-err c = listed_twice (c.in_ok-once.ensures.twice c.if-not-once.true)
 
 pub returns-then-not-rows_fit-clause-err : goal.returns-then-not-rows_fit-clause-err
 returns-then-not-rows_fit-clause-err c =
-    (gcc_large (c.rows_fit.ensures.large c.if-not-rows_fit.true), gcc_named c.in_ok-scope.scope c.in_ok-scope.ensures.ok (c.are_once.ensures.once c.if-not-are_once.false))
+    (gcc_large (c.rows_fit.ensures.large c.if-not-rows_fit.true), gcc_named c.in_ok-scope.scope c.in_ok-scope.ensures.ok (c.in_ok-once.ensures.once c.if-not-once.false))
 
 pub returns-then-not-is_rising-clause-err : goal.returns-then-not-is_rising-clause-err
 returns-then-not-is_rising-clause-err c =
@@ -29,6 +29,6 @@ returns-then-not-is_rising-clause-err c =
         places = c.in_ok-scope.ensures.ok;
         falls = λ rising. true≢false (sym (c.is_rising.ensures.1 (subst IsStrictlyIncreasing (sym slice) rising)) ∙ c.if-not-is_rising.true);
       },
-      gcc_named c.in_ok-scope.scope c.in_ok-scope.ensures.ok (c.are_once.ensures.once c.if-not-are_once.false),
+      gcc_named c.in_ok-scope.scope c.in_ok-scope.ensures.ok (c.in_ok-once.ensures.once c.if-not-once.false),
       gcc_fits fits,
     )

@@ -1,6 +1,6 @@
-use Rattle.std.proofs.Common.{List, ℕ, ◌≡◌, ◌<◌, ◌≤◌, length, All, ◌∙◌, ap, subst, sym, le_trans}
+use Rattle.std.proofs.Common.{Result, Ok, Err, IfErr, List, ℕ, ◌≡◌, ◌<◌, ◌≤◌, length, All, ◌∙◌, ap, subst, sym, le_trans}
 use Rattle.hk_group.specs.Problems.{IsConstraint, IsScope}
-use Rattle.hk_group.specs.Solutions.{scope_values}
+use Rattle.hk_group.specs.Solutions.{IsUsers, is_users, scope_values}
 use Rattle.hk_group.proofs.Distinct.{scope_values-small}
 use Rattle.hk_group.proofs.SumSizes.{scope_short}
 use Rattle.hk_group.proofs.judging.holds.Goals as goal
@@ -30,3 +30,14 @@ accepts-requires-clause-values c =
     let small = scope_values-small c.in-User.scope c.args.values.now valid.0.declared c.requires.small in
     let same = ap (λ (scope : List ℕ). scope_values scope c.args.values.now) c.as_slice-in-User.ensures in
     subst (All (λ value. value < 128)) (sym (c.as_slice-in-User-2.ensures ∙ c.in_ok-own-in-User.ensures ∙ same)) small
+
+-- a refusal says what is so anyway
+refused_anyway : {A E : Type 0} {X : Type 0} (result : Result A E) → X → IfErr result (λ refused. X)
+refused_anyway (Ok made) x = tt
+refused_anyway (Err refused) x = x
+
+pub returns-in_err-own-in-User-clause-err : goal.returns-in_err-own-in-User-clause-err
+returns-in_err-own-in-User-clause-err c = refused_anyway c.from_residual.result (subst IsUsers (sym c.in-User.is) is_users)
+
+pub returns-in_ok-own-in-User-clause-err : goal.returns-in_ok-own-in-User-clause-err
+returns-in_ok-own-in-User-clause-err c = refused_anyway c.accepts.result (subst IsUsers (sym c.in-User.is) is_users)

@@ -7,7 +7,7 @@ use Rattle.hk_group.proofs.judging.judge.Goals as goal
 pub loop-constraint-preserved : goal.loop-constraint-preserved
 loop-constraint-preserved c =
     All-more (Holds c.args.values.now) c.constraints-constraint-items.result.now c.loop-constraint.constraint-index c.constraint-item.result c.loop-constraint-test.true c.loop-constraint.invariant
-    (subst (Holds c.args.values.now) c.constraint-item.is (c.in_ok-holds.ensures.0 c.if-not-branch.false))
+    (subst (Holds c.args.values.now) c.constraint-item.is (c.in_ok-holds.ensures.ok.0 c.if-not-branch.false))
 
 pub returns-clause-holds : goal.returns-clause-holds
 returns-clause-holds c =

@@ -5,8 +5,8 @@ use Rattle.hk_lines.specs.PostShapes.{args_of}
 use Rattle.hk_model.proofs.Bindings.{bound_arguments}
 use Rattle.hk_model.proofs.binding.bind.Goals as goal
 
-pub invariant_of-result : goal.invariant_of-result
-invariant_of-result c =
+pub new-requires : goal.new-requires
+new-requires c =
     let fit : FitKinds (param_kinds c.in-Ok.spec) (args_of c.args.args.now) = subst (λ (s : Specification). FitKinds (param_kinds s) (args_of c.args.args.now)) (sym c.in-Ok.ensures) c.requires.fit in
     record {
       few = c.ranges.len.fits;
