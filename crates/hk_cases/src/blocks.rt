@@ -7,7 +7,7 @@ use hk_spec::Spec;
 use std::alloc::{AllocError, Global};
 
 /// Whether a specification is printed so.
-pub fn is_printed(alloc: Global, spec: &Spec, text: &[u8]) -> Option<bool> {
+fn is_printed(alloc: Global, spec: &Spec, text: &[u8]) -> Option<bool> {
     let mut printed = List::new(alloc);
     print_spec(spec, &mut printed).ok()?;
     Some(printed.as_slice() == text)

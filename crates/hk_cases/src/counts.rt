@@ -1,8 +1,8 @@
 //! Lines of `among`, `sequence` and `gcc`: which are read, and which are refused and why.
 
 use crate::models::{judged, refused};
-use crate::texts::{joined, numbered, push_lines};
-use hk_base::Bytes;
+use crate::texts::{numbered, push_lines};
+use hk_base::{Bytes, List};
 use hk_model::RefusalKind;
 use std::alloc::{AllocError, Global};
 
@@ -15,8 +15,10 @@ const GOOD_LINES: &[&str] = &[
     "among (x) 0..127 0..1000000000000",
     "sequence 1 (x, y) {1} 0..1",
     "sequence 32 (x, y) {1} 0..1",
+    "sequence 2 (x, y) {127} 1000000000000..1000000000000",
     "gcc (x, y) 1:0..2, 0:0..0",
     "gcc (x) 127:3..0",
+    "gcc (x) 0:1000000000000..1000000000000",
 ];
 
 const BAD_LINES: &[(&str, RefusalKind)] = &[
@@ -24,7 +26,11 @@ const BAD_LINES: &[(&str, RefusalKind)] = &[
     ("sequence 33 (x, y) {1} 0..1", RefusalKind::Limit),
     ("among (x) {0} 0..1000000000001", RefusalKind::Limit),
     ("sequence 2 (x) {0} 1000000000001..1", RefusalKind::Limit),
+    ("sequence 2 (x) {0} 0..1000000000001", RefusalKind::Limit),
     ("gcc (x) 1:0..1000000000001", RefusalKind::Limit),
+    ("gcc (x) 1:1000000000001..0", RefusalKind::Limit),
+    ("among (x) {0} 1000000000001..1", RefusalKind::Limit),
+    ("sequence 2 (x) {128} 0..1", RefusalKind::Limit),
     ("among (x) {128} 0..1", RefusalKind::Limit),
     ("gcc (x) 128:0..1", RefusalKind::Limit),
     ("among (x) {3..1} 0..1", RefusalKind::Limit),
@@ -33,15 +39,21 @@ const BAD_LINES: &[(&str, RefusalKind)] = &[
     ("gcc (x) 1:0..1, 1:0..2", RefusalKind::Name),
     ("gcc (x) 200:0..1, 200:0..1", RefusalKind::Name),
     ("among (z) {0} 0..1", RefusalKind::Name),
+    ("sequence 2 (x, z) {0} 0..1", RefusalKind::Name),
+    ("gcc (x, z) 1:0..1", RefusalKind::Name),
     ("among (y, x) {0} 0..1", RefusalKind::Scope),
     ("sequence 2 (x, x) {0} 0..1", RefusalKind::Scope),
     ("gcc (y, x) 0:0..1", RefusalKind::Scope),
     ("among (x) 0..1", RefusalKind::Syntax),
     ("among (x) {0} -1..2", RefusalKind::Syntax),
     ("among (x) {0} 1", RefusalKind::Syntax),
+    ("among (x, y,) {0} 0..1", RefusalKind::Syntax),
+    ("among (x) {0,} 0..1", RefusalKind::Syntax),
     ("among", RefusalKind::Syntax),
     ("sequence (x) {0} 0..1", RefusalKind::Syntax),
     ("sequence 02 (x) {0} 0..1", RefusalKind::Syntax),
+    ("sequence 2 (x, y,) {0} 0..1", RefusalKind::Syntax),
+    ("sequence 2 (x) {0,} 0..1", RefusalKind::Syntax),
     ("gcc (x)", RefusalKind::Syntax),
     ("gcc (x) 1:0..1,", RefusalKind::Syntax),
     ("gcc (x) 1 0..1", RefusalKind::Syntax),
@@ -49,9 +61,17 @@ const BAD_LINES: &[(&str, RefusalKind)] = &[
     ("group", RefusalKind::Later),
 ];
 
+/// The line below those above it.
+fn with_line(alloc: Global, line: &str) -> Result<Bytes, AllocError> {
+    let mut text = List::new(alloc);
+    text.push_all(ABOVE.as_bytes())?;
+    text.push_all(line.as_bytes())?;
+    Ok(text)
+}
+
 /// Whether, and why, the line is refused.
 fn refused_line(alloc: Global, line: &str) -> Option<Option<(u32, RefusalKind)>> {
-    let text = joined(alloc, &[ABOVE, line]).ok()?;
+    let text = with_line(alloc, line).ok()?;
     Some(refused(alloc, text.as_slice()))
 }
 

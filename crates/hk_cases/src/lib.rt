@@ -1,9 +1,9 @@
-//! Rows of tests for crates that keep none of their own: texts and values, and what is answered for
-//! them, worked by hand. Each subject has a file, with its rows in tables. The crate has nothing to
-//! call.
+//! Rows of tests for the readers of models and of specifications and for the search, which keep
+//! none of their own: texts, and what is answered for them, worked by hand. Each subject has a file,
+//! with its rows in tables. The crate has nothing to call.
 //!
-//! A specification or a problem is let go by `drop`: what that does is then proved once for its type,
-//! and not in each function that ends with one.
+//! A specification or a problem is let go by `drop`: what that does is then proved once for its
+//! type, and not in each function that ends with one.
 #![tactic(auto)]
 
 #[cfg(test)]
@@ -13,14 +13,6 @@ mod blocks;
 #[cfg(test)]
 mod counts;
 #[cfg(test)]
-mod grades;
-#[cfg(test)]
-mod groups;
-#[cfg(test)]
-mod library;
-#[cfg(test)]
 mod models;
-#[cfg(test)]
-mod specs;
 #[cfg(test)]
 mod texts;

@@ -93,7 +93,7 @@ fn refused_lines(
 
 /// What the values cost by a problem, where there is one below 128 for each variable; None where they
 /// don't keep the constraints.
-pub fn judged_by(alloc: Global, problem: &Problem, values: &[u8]) -> Option<Option<i64>> {
+fn judged_by(alloc: Global, problem: &Problem, values: &[u8]) -> Option<Option<i64>> {
     if problem.domains().len() != values.len() || values.iter().any(|value| *value > 127) {
         return None;
     }

@@ -48,18 +48,3 @@ pub fn repeat(text: &mut Bytes, piece: &[u8], count: usize) -> Result<(), AllocE
     }
     Ok(())
 }
-
-/// The text that these pieces make.
-pub fn joined(alloc: Global, pieces: &[&str]) -> Result<Bytes, AllocError> {
-    let mut text = List::new(alloc);
-    push_pieces(&mut text, pieces)?;
-    Ok(text)
-}
-
-/// Appends these pieces.
-fn push_pieces(text: &mut Bytes, pieces: &[&str]) -> Result<(), AllocError> {
-    for piece in pieces {
-        text.push_all(piece.as_bytes())?;
-    }
-    Ok(())
-}

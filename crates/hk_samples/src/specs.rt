@@ -5,39 +5,21 @@ ghost use Rattle.std.specs.Prelude.{[], ◌∷◌, IfOk};
 ghost use Rattle.hk_kinds.specs.Parts.{part_at};
 ghost use Rattle.hk_kinds.specs.Shapes.{HasShape};
 
-use crate::texts::MOST_BYTES;
+use crate::texts::{RISE, written};
 use hk_base::List;
 use hk_kinds::{Kind, Prop, State};
-use hk_parse::read_spec;
-use hk_spec::{Bound, PropDecl, Spec};
+use hk_spec::{Bound, PropDecl};
 use std::alloc::{AllocError, Global};
 
-/// The specification whose property is the value before, and whose test asks that each value is
-/// greater than the one before it.
-const RISE: &str = "spec rise ()\ndown m Min 0\ntest ((i < 1) or (m < v))\nstep m v\nend\n";
-
-/// The specification `rise`.
-fn rise(alloc: Global) -> Option<Spec> {
-    let text = RISE.as_bytes();
-    if text.len() > MOST_BYTES {
-        return None;
-    }
-    read_spec(alloc, text).ok()
-}
-
-/// It for lists of so many values.
+/// The specification `rise` for lists of so many values.
 fn rising(alloc: Global, count: usize) -> Option<Bound> {
     let len = u16::try_from(count).ok()?;
-    let spec = rise(alloc)?;
+    let spec = written(alloc, RISE.as_bytes())?;
     let [] = spec.params.as_slice() else {
         drop(spec);
         return None;
     };
-    Some(Bound {
-        spec,
-        args: List::new(alloc),
-        len,
-    })
+    Some(Bound::new(spec, List::new(alloc), len))
 }
 
 /// Whether the values are accepted below a cost, where they are as many as they must be, each below

@@ -1,5 +1,5 @@
 use Rattle.std.proofs.Common.{◌≤◌}
-use Rattle.hk_cases.proofs.library.cheaper.Given as goal
+use Rattle.hk_samples.proofs.library.cheaper.Given as goal
 
 -- no more lists are counted than there were
 abbrev pub invariant-loop-number : goal.invariant-loop-number

@@ -1,10 +1,8 @@
 //! Grades: which specifications are graded, and of the others the first place whose sense isn't
 //! allowed, with that sense.
 
-use crate::blocks::is_printed;
-use crate::texts::{MOST_BYTES, joined};
+use crate::texts::{RISE, is_printed, joined, written};
 use hk_grade::{GradeError, Graded, Place, Sense, grade};
-use hk_parse::read_spec;
 use hk_spec::Spec;
 use std::alloc::Global;
 
@@ -42,7 +40,7 @@ fn told_of_spec(alloc: Global, spec: &Spec) -> Option<Told> {
 
 /// What is told of the specification that a text writes.
 fn told_of_text(alloc: Global, text: &[u8]) -> Option<Told> {
-    let spec = spelled(alloc, text)?;
+    let spec = written(alloc, text)?;
     let told = told_of_spec(alloc, &spec);
     drop(spec);
     told
@@ -59,14 +57,6 @@ fn is_told(alloc: Global, pieces: &[&str], told: Told) -> bool {
     told_of(alloc, pieces) == Some(told)
 }
 
-/// The specification that a text writes.
-fn spelled(alloc: Global, text: &[u8]) -> Option<Spec> {
-    if text.len() > MOST_BYTES {
-        return None;
-    }
-    read_spec(alloc, text).ok()
-}
-
 /// A specification, graded.
 fn graded_of_spec(alloc: Global, spec: &Spec) -> Option<Graded> {
     grade(alloc, spec).ok()
@@ -74,7 +64,7 @@ fn graded_of_spec(alloc: Global, spec: &Spec) -> Option<Graded> {
 
 /// The specification that a text writes, graded.
 fn graded_of(alloc: Global, text: &[u8]) -> Option<Graded> {
-    let spec = spelled(alloc, text)?;
+    let spec = written(alloc, text)?;
     let graded = graded_of_spec(alloc, &spec);
     drop(spec);
     graded
@@ -281,10 +271,7 @@ fn steps_may_move_as_their_kind(rt: HostRuntime) {
     assert_eq!(rt; other_step(rt.alloc(), STEPS), None);
 }
 
-/// A specification of lists that rise.
-const RISE: &str = "spec rise ()\ndown m Min 0\ntest ((i < 1) or (m < v))\nstep m v\nend\n";
-
-/// The same as it is printed.
+/// The specification of lists that rise, as it is printed.
 const RISE_SPACED: &str =
     "spec rise ()\ndown m Min 0\ntest ( ( i < 1 ) or ( m < v ) )\nstep m v\nend\n";
 

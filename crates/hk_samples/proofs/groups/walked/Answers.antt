@@ -1,5 +1,5 @@
 use Rattle.hk_kinds.proofs.StateLaws.{length-HasShape}
-use Rattle.hk_cases.proofs.groups.walked.Goals as goal
+use Rattle.hk_samples.proofs.groups.walked.Goals as goal
 
 pub step_down-requires-clause-to : goal.step_down-requires-clause-to
 step_down-requires-clause-to c = length-HasShape c.requires.to

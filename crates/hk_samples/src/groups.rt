@@ -6,11 +6,12 @@ ghost use Rattle.hk_kinds.specs.Shapes.{HasShape};
 ghost use Rattle.hk_group.specs.Groups.{group_down_shape, group_up_shape};
 ghost use Rattle.hk_spec.specs.Library.{among_bound, sum_bound};
 
+use hk_base::{list_of, pair};
 use hk_group::{Group, GroupFault, Scopes, compose};
 use hk_kinds::{Prop, State};
 use hk_lib::{among, sum};
 use hk_spec::Bounds;
-use hk_trees::{list_of, list_of_two, pair};
+use hk_trees::list_of_two;
 use std::alloc::{AllocError, Global};
 
 /// How many of two values are 1, and the sum of the first and twice the second of two values.

@@ -7,7 +7,7 @@ use Rattle.hk_kinds.specs.Shapes.{HasShape, is_min, no_kinds, one_more}
 use Rattle.hk_kinds.specs.declared.kinds.Kind.TheVariants.{Min}
 use Rattle.hk_kinds.specs.declared.properties.Prop.{Prop}
 use Rattle.hk_kinds.specs.declared.properties.Prop.TheVariants.{Num}
-use Rattle.hk_cases.proofs.specs.state.Goals as goal
+use Rattle.hk_samples.proofs.specs.state.Goals as goal
 
 small_within : (n : ℕ) → n < 256 → IsWithinLimit (pos n)
 small_within n small = record { least = omega (arith, ints); most = omega (arith, ints) }

@@ -3,15 +3,15 @@ use Rattle.hk_spec.specs.Arguments.{AreArguments, no_arguments}
 use Rattle.hk_spec.specs.Specifications.{Specification, IsSpecification}
 use Rattle.hk_spec.specs.declared.arguments.Arg.{Arg}
 use Rattle.hk_spec.specs.declared.parts.Param.{Param}
-use Rattle.hk_cases.proofs.specs.rising.Goals as goal
+use Rattle.hk_samples.proofs.specs.rising.Goals as goal
 
 -- where there is no parameter, no argument is asked
 no_args : (len : ℕ) (params : List Param) (args : List Arg) → length params < 1 → args ≡ [] → AreArguments len (map (λ (p : Param). p.kind) params) args
 no_args len [] args few none = rw none no_arguments
 no_args len (p ∷ params) args few none = absurd (omega arith)
 
-pub invariant_of-result : goal.invariant_of-result
-invariant_of-result c =
+pub new-requires-2 : goal.new-requires-2
+new-requires-2 c =
     let few : length c.in_ok-spec.spec.params < 1 = subst (λ (s : Specification). length s.params < 1) c.spec.view_is (rw (← c.as_slice.ensures) c.in-empty.len_below) in
     record {
       few = omega arith;

@@ -1,13 +1,12 @@
 //! The library's constraints: how many of all lists of values from 0 to 2 each accepts, by its exact
 //! run and by its meaning, which are asked of each list. The numbers are worked by hand.
 
-use crate::blocks::is_printed;
-use crate::models::{judged_by, spelled};
 use crate::specs::accepted_below;
-use crate::texts::joined;
+use crate::texts::{MOST_BYTES, is_printed, joined};
 use hk_base::List;
-use hk_group::Problem;
+use hk_group::{Problem, judge};
 use hk_lib::{alldifferent, among, gcc, objective, sequence, sum};
+use hk_model::read_model;
 use hk_spec::{Bound, Bounds};
 use std::alloc::{AllocError, Global};
 use std::test::Fail;
@@ -33,6 +32,15 @@ fn all_accept(alloc: Global, bounds: &[Bound], values: &[u8], best: i64) -> Opti
     Some(true)
 }
 
+/// Whether the values make a problem's constraints hold, where there is one below 128 for each
+/// variable.
+fn is_solved(alloc: Global, problem: &Problem, values: &[u8]) -> Option<bool> {
+    if problem.domains().len() != values.len() || values.iter().any(|value| *value > 127) {
+        return None;
+    }
+    Some(judge(alloc, problem, values).ok()?.is_some())
+}
+
 /// How many of so many lists of `len` values the specifications accept, where these are the lists
 /// that the problem's constraints allow.
 fn accepted_lists(
@@ -47,7 +55,7 @@ fn accepted_lists(
         let list = list_of(number);
         let values = list.get(..len)?;
         let accepted = all_accept(alloc, bounds, values, 0)?;
-        if judged_by(alloc, problem, values)?.is_some() != accepted {
+        if is_solved(alloc, problem, values)? != accepted {
             return None;
         }
         if accepted {
@@ -102,6 +110,14 @@ const ROWS: &[Row] = &[
     (FOUR, "sum (1*a, 1*b, 1*c, 1*d) 3..4\n", 4, 81, 35),
     (FOUR, "sum (1*a, -1*b, 2*c, -2*d) 0..0\n", 4, 81, 13),
 ];
+
+/// The problem that a text spells, where it spells one.
+fn spelled(alloc: Global, text: &[u8]) -> Option<Problem> {
+    if text.len() > MOST_BYTES {
+        return None;
+    }
+    read_model(alloc, text).ok()
+}
 
 /// How many lists the specifications and the constraint of a model allow.
 fn allowed(alloc: Global, bounds: &[Bound], text: &[u8], len: usize, lists: u8) -> Option<u32> {
