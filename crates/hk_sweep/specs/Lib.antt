@@ -1,0 +1,6 @@
+pub mod Exact
+pub mod Loose
+pub mod OneValue
+pub mod Tight
+pub mod Transitions
+pub mod Widths

@@ -1,0 +1,7 @@
+pub mod KeptValues
+pub mod Members
+pub mod Openings
+pub mod RowSets
+pub mod Steps
+pub mod Supported
+pub mod ValueSets

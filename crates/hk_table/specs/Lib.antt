@@ -1,0 +1,9 @@
+pub mod Fits
+pub mod Items
+pub mod Keeps
+pub mod Members
+pub mod Opening
+pub mod Supporting
+pub mod Tables
+pub mod Traces
+pub mod inside

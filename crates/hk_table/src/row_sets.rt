@@ -1,0 +1,57 @@
+//! Sets of rows of one layer.
+ghost use Rattle.std.specs.Prelude.{◌≡◌, ℕ, ◌<◌, ◌↔◌, ◌⊎◌, IsTrue};
+ghost use Rattle.hk_base.specs.Sets.{Has};
+
+use std::marker::Model;
+
+/// A set of rows below 256. Contracts see the number whose bit r stands for the row r.
+#[derive(Debug, Drop)]
+pub struct RowSet {
+    low: u128,
+    high: u128,
+}
+
+impl Model for RowSet {
+    ghost use Rattle.std.specs.Prelude.{ℕ, ◌+◌, ◌*◌, ◌^◌, ◌<◌};
+
+    ghost Value = { ℕ };
+
+    ghost view = { λ s. s.high * 2 ^ 128 + s.low };
+
+    ghost invariant = { λ s. s.low < 2 ^ 128 };
+}
+
+impl RowSet {
+    /// The set of no row.
+    pub fn empty() -> RowSet
+        ensures { result ≡ 0 }
+    {
+        RowSet { low: 0, high: 0 }
+    }
+
+    /// Whether the set has a row.
+    #[inline]
+    pub fn has(&self, row: u16) -> bool
+        requires { row < 256 }
+        ensures { IsTrue result ↔ Has self.now row }
+    {
+        if row < 128 {
+            (self.low >> row) & 1 == 1
+        } else {
+            (self.high >> (row - 128)) & 1 == 1
+        }
+    }
+
+    /// Takes a row in, and no other.
+    #[inline]
+    pub fn insert(&mut self, row: u16)
+        requires { row < 256 }
+        ensures { (other : ℕ) → Has self.new other ↔ (Has self.old other ⊎ (other ≡ row)) }
+    {
+        if row < 128 {
+            self.low |= 1 << row;
+        } else {
+            self.high |= 1 << (row - 128);
+        }
+    }
+}
