@@ -1,7 +1,7 @@
 //! Values that may fail to be made: two together, and lists of plain items. What a failure leaves is
 //! dropped by a call: the drops that the compiler writes where a scope ends are proved anew at each way
 //! out, and cost the most of a proof.
-ghost use Rattle.std.specs.Prelude.{◌≡◌, Ok, IfOk};
+ghost use Rattle.std.specs.Prelude.{◌≡◌, ◌⊎◌, Ok, Err, IfOk, IfErr};
 
 use crate::list::List;
 use std::alloc::{AllocError, Global};
@@ -13,6 +13,7 @@ pub fn pair<A: Drop, B: Drop>(
 ) -> Result<(A, B), AllocError>
     ensures first { IfOk result (λ made. first ≡ Ok made.0) }
     ensures second { IfOk result (λ made. second ≡ Ok made.1) }
+    ensures failed { IfErr result (λ refused. (first ≡ Err refused) ⊎ (second ≡ Err refused)) }
 {
     match first {
         Err(refused) => {

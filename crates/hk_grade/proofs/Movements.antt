@@ -12,6 +12,7 @@ use Rattle.hk_kinds.specs.SetLattices.{eqb-eq}
 use Rattle.hk_kinds.specs.Sets.{IsSubset}
 use Rattle.hk_kinds.specs.declared.kinds.Kind.TheVariants.{AllBits}
 use Rattle.hk_kinds.specs.declared.properties.Prop.TheVariants.{Bits}
+use Rattle.hk_kinds.proofs.Covering.{subset_along}
 use Rattle.hk_kinds.proofs.PropertyLaws.{to_property_covers, from_property_covers}
 use Rattle.hk_spec.specs.Grades.{turned, scaled, product_sense}
 use Rattle.hk_spec.specs.Values.{set_without}
@@ -173,11 +174,8 @@ not_keeps p q h = grind arith
 from_covers_all : {a b : ℕ} → PropertyCovers AllBits (Bits a) (Bits b) → IsSubset a b
 from_covers_all (covers_all h) = h
 
-pub subset_along : (a b c : ℕ) → IsSubset a b → IsSubset b c → IsSubset a c
-subset_along a b c h k = record { within = λ v has. k.within v (h.within v has) }
-
 pub subset_keeps : (a c b d : ℕ) → IsSubset c a → IsSubset b d → Implies (bit_and a b == a) (bit_and c d == c)
-subset_keeps a c b d h k = λ holds. from_property_covers AllBits (Bits c) (Bits d) (covers_all (subset_along c a d h (subset_along a b d (from_covers_all (to_property_covers AllBits (Bits a) (Bits b) holds)) k)))
+subset_keeps a c b d h k = λ holds. from_property_covers AllBits (Bits c) (Bits d) (covers_all (subset_along h (subset_along (from_covers_all (to_property_covers AllBits (Bits a) (Bits b) holds)) k)))
 
 pub both_keep : (p q r s : Bool) → Implies p q → Implies r s → Implies (p && r) (q && s)
 both_keep p q r s h k = grind arith

@@ -32,7 +32,7 @@ pub fn begin_downs(parts: &[GroupPart], to: &mut State)
     ensures { to.new ≡ initial_down_of parts.now }
 {
     // The places of a state fit their type, as those of a slice do.
-    let _properties = to.as_slice();
+    let _places = to.view().len();
     let mut first = 0;
     for k in 0..parts.len() {
         let part = &parts[k];
@@ -47,7 +47,7 @@ pub fn begin_ups(parts: &[GroupPart], to: &mut State)
     ensures { to.new ≡ initial_up_of parts.now }
 {
     // The places of a state fit their type, as those of a slice do.
-    let _properties = to.as_slice();
+    let _places = to.view().len();
     let mut first = 0;
     for k in 0..parts.len() {
         let part = &parts[k];

@@ -12,7 +12,7 @@ pub fn write_initial(properties: &[PropDecl], to: &mut State, first: usize)
     ensures { to.new ≡ with_part first (initial_values properties.now) to.old }
 {
     // The places of a state fit their type, as those of a slice do.
-    let _properties = to.as_slice();
+    let _places = to.view().len();
     for i in 0..properties.len() {
         to.set(first + i, properties[i].init);
     }

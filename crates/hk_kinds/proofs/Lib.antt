@@ -1,3 +1,4 @@
+pub mod Covering
 pub mod DistinctLaws
 pub mod KeyLaws
 pub mod LastStates

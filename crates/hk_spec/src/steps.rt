@@ -52,7 +52,7 @@ pub fn write_steps(steps: &[StepExpr], at: &Setting<'_>, to: &mut State, first: 
     ensures { to.new ≡ with_part first (map (step_value at.now) steps.now) to.old }
 {
     // The places of a state fit their type, as those of a slice do.
-    let _properties = to.as_slice();
+    let _places = to.view().len();
     for i in 0..steps.len() {
         let value = step_value(&steps[i], at);
         to.set(first + i, value);

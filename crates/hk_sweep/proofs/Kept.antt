@@ -1,14 +1,12 @@
 -- A loose revision keeps each assignment that the old table keeps, that lies in the domains and that is accepted.
-use Rattle.std.proofs.Common.{◌≡◌, ℕ, ℤ, ◌≤ℤ◌, Bool, true, false, ◌+◌, ◌<◌, ◌==◌, if◌then◌else◌, List, [], ◌∷◌, length, slice_get, All, Some, IsTrue, IsFalse, arith, sym, refl, ◌∙◌, subst}
-use Rattle.std.proofs.lemmas.Int.{ints}
+use Rattle.std.proofs.Common.{◌≡◌, ℕ, ℤ, Bool, true, false, ◌+◌, ◌<◌, ◌==◌, List, [], ◌∷◌, length, slice_get, All, Some, IsTrue, IsFalse, arith, sym, refl, ◌∙◌, subst}
 use Rattle.std.proofs.lemmas.Option.{same_Some, slice_get_within, get_or_from_slice_get}
 use Rattle.hk_base.specs.Sets.{Has}
-use Rattle.hk_kinds.specs.Covers.{PropertyCovers, covers_min, covers_max, covers_interval, covers_some, covers_all, StateCovers, covers_none, covers_more}
-use Rattle.hk_kinds.specs.Sets.{IsSubset}
+use Rattle.hk_kinds.specs.Covers.{StateCovers}
 use Rattle.hk_kinds.specs.Shapes.{HasShape}
 use Rattle.hk_kinds.specs.Tops.{top_state}
-use Rattle.hk_kinds.specs.declared.kinds.Kind.{Kind}
 use Rattle.hk_kinds.specs.declared.properties.Prop.{Prop}
+use Rattle.hk_kinds.proofs.Covering.{state_along}
 use Rattle.hk_kinds.proofs.StateLaws.{top_covers}
 use Rattle.hk_table.specs.Keeps.{KeepsFrom, keeps_last, keeps_layer, LieIn, lie_none, lie_more}
 use Rattle.hk_table.specs.Members.{Member, first, later}
@@ -26,24 +24,6 @@ pub record IsRevisable (t : Transitions) : Type 0 where
   pub test : (layer value : ℕ) (best : ℤ) (wider_down down wider_up up : List Prop) → StateCovers t.down_shape wider_down down → StateCovers t.up_shape wider_up up → IsTrue (t.passes layer value best down up) → IsTrue (t.passes layer value best wider_down wider_up)
   pub initial_up : HasShape t.up_shape t.initial_up
   pub up_shapes : (layer value : ℕ) (state : List Prop) → value < 128 → HasShape t.up_shape state → HasShape t.up_shape (t.up layer value state)
-
--- to cover goes along, of any properties and states
-number_along : (a b c : ℤ) → a ≤ℤ b → b ≤ℤ c → a ≤ℤ c
-number_along a b c h k = omega (arith, ints)
-
-subset_along : {a b c : ℕ} → IsSubset a b → IsSubset b c → IsSubset a c
-subset_along h k = record { within = λ value has. k.within value (h.within value has) }
-
-property_along : {kind : Kind} {p q r : Prop} → PropertyCovers kind p q → PropertyCovers kind q r → PropertyCovers kind p r
-property_along (covers_min h) (covers_min k) = covers_min (number_along _ _ _ h k)
-property_along (covers_max h) (covers_max k) = covers_max (number_along _ _ _ k h)
-property_along (covers_interval h i) (covers_interval k j) = covers_interval (number_along _ _ _ h k) (number_along _ _ _ j i)
-property_along (covers_some h) (covers_some k) = covers_some (subset_along k h)
-property_along (covers_all h) (covers_all k) = covers_all (subset_along h k)
-
-pub state_along : {kinds : List Kind} {a b c : List Prop} → StateCovers kinds a b → StateCovers kinds b c → StateCovers kinds a c
-state_along covers_none covers_none = covers_none
-state_along (covers_more h hs) (covers_more k ks) = covers_more (property_along h k) (state_along hs ks)
 
 -- what holds of all items holds of the one at a place
 pub at_place : {X : Type 0} (P : X → Type 0) (xs : List X) (k : ℕ) (x : X) → slice_get xs k ≡ Some x → All P xs → P x

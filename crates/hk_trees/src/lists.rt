@@ -40,7 +40,7 @@ pub fn list_of_three<T: Drop>(alloc: Global, items: ((T, T), T)) -> Result<List<
 }
 
 /// A list with one more item at its end.
-pub fn with_item<T: Drop>(list: List<T>, item: T) -> Result<List<T>, AllocError>
+fn with_item<T: Drop>(list: List<T>, item: T) -> Result<List<T>, AllocError>
     ensures { IfOk result (λ longer. longer ≡ list ++ item ∷ []) }
 {
     let mut list = list;

@@ -7,8 +7,7 @@ use Rattle.hk_spec.proofs.steps.write_steps.Goals as goal
 pub overflow_add-first : goal.overflow_add-first
 overflow_add-first c =
     let within : c.args.first + c.loop-i.i < length c.args.to.now = within_part _ _ _ _ c.loop-i-test.true c.requires in
-    let same : length c.as_slice-properties.result.now ≡ length c.args.to.now = ap length c.as_slice-properties.ensures in
-    grind (arith, c.as_slice-properties.type_inv)
+    grind (arith, c.len-places.ensures, c.len-places.type_inv)
 
 pub loop-i-preserved : goal.loop-i-preserved
 loop-i-preserved c =
