@@ -22,25 +22,25 @@ use Rattle.hk_sweep.proofs.Marks.{marks, mark_goes_on, step_by, targets_by}
 use Rattle.hk_sweep.proofs.Shapes.{KeepsShapes, AreSmall, group_keeps_shapes, members_small}
 
 -- the values of all layers are below 128
-data AllSmall : List (List ℕ) → Type 0 where
+pub data AllSmall : List (List ℕ) → Type 0 where
   small_none : AllSmall []
   small_more : {values : List ℕ} {more : List (List ℕ)} → AreSmall values → AllSmall more → AllSmall (values ∷ more)
 
 -- a row on the way down from which a path leads to this row; where it has the shape, the end has its exact down state
-record Reaches (t : Transitions) (layer : ℕ) (halves : List Half) (c : ℕ) (path : List ℕ) (end : PlainRow) : Type 0 where
+pub record Reaches (t : Transitions) (layer : ℕ) (halves : List Half) (c : ℕ) (path : List ℕ) (end : PlainRow) : Type 0 where
   pub half : Half
   pub at : slice_get halves c ≡ Some half
   pub exact : HasShape t.down_shape half.down → end.down ≡ down_along t layer half.down path
 
 module _ (t : Transitions) (best : ℤ) (width : ℕ) where
   module _ (layer : ℕ) (values : List ℕ) (domain : ℕ) (old old_next : List PlainRow) where
-    abbrev marked : Half → ℕ → Mark
+    abbrev pub marked : Half → ℕ → Mark
     marked = marks t best layer values domain old old_next
 
     -- ---- the steps of a finished layer are those of its arcs
 
     module _ (steps : List (List Prop)) (next : List PlainRow) where
-      abbrev finish_row : Half → PlainRow
+      abbrev pub finish_row : Half → PlainRow
       finish_row = row_at t best width layer values domain old old_next steps next
 
       judged_step : (row : PlainRow) (value c : ℕ) (up : Option (List Prop)) (passes : List Prop → Bool) → step_of_entry t layer row value (judged_by passes up c) ≡ t.down layer value row.down ∷ []
@@ -68,7 +68,7 @@ module _ (t : Transitions) (best : ℤ) (width : ℕ) where
           (value_steps half row some same)
           ∙ sym (map-append step_of (arcs_of_mark (marked half value)) (arcs_of_values (marked half) some))
 
-      row_steps : (halves : List Half) → steps_of_rows t layer values (map finish_row halves) ≡ map step_of (arcs_of_rows marked values halves)
+      pub row_steps : (halves : List Half) → steps_of_rows t layer values (map finish_row halves) ≡ map step_of (arcs_of_rows marked values halves)
       row_steps [] = refl
       row_steps (half ∷ halves) =
           ap₂ (λ xs ys. xs ++ ys) (value_steps half (finish_row half) values refl) (row_steps halves)
@@ -76,15 +76,15 @@ module _ (t : Transitions) (best : ℤ) (width : ℕ) where
 
     -- ---- one layer
 
-    module _ (keeps : KeepsShapes t) (small : AreSmall values) (halves : List Half) where
-      abbrev arcs : List Arc
+    module _ (halves : List Half) where
+      abbrev pub arcs : List Arc
       arcs = arcs_of_rows marked values halves
 
-      abbrev lower : List Half
+      abbrev pub lower : List Half
       lower = next_halves t.down_shape width (length old_next) arcs
 
       -- where the steps are few, an arc leads to a row whose down state is its step
-      arc_exact : (arc : Arc) (c : ℕ) (half : Half) → length (steps_of arcs) ≤ width → Member arc arcs → HasShape t.down_shape arc.step → row_of_step width (steps_of arcs) arc.step ≡ c → slice_get lower c ≡ Some half → half.down ≡ arc.step
+      pub arc_exact : (arc : Arc) (c : ℕ) (half : Half) → length (steps_of arcs) ≤ width → Member arc arcs → HasShape t.down_shape arc.step → row_of_step width (steps_of arcs) arc.step ≡ c → slice_get lower c ≡ Some half → half.down ≡ arc.step
       arc_exact arc c half few m shape leads at =
           let below : c < min (length (steps_of arcs)) width = omega (arith, get_within lower c half at, halves_long t.down_shape width (length old_next) arcs) in
           let is : half ≡ next_half t.down_shape width (length old_next) arcs c = one_item lower c half _ at (half_at t.down_shape width (length old_next) arcs c below) in
@@ -92,29 +92,31 @@ module _ (t : Transitions) (best : ℤ) (width : ℕ) where
           ∙ joined_same t.down_shape (length old_next) (arcs_to width arcs c) arc.step shape (arcs_to_has width arcs c arc m leads)
           (λ other n. let also = arcs_to_from width arcs c other n in same_row width arcs other arc few also.stands m (also.leads ∙ sym leads))
 
-      goes_exact : (next : List PlainRow) (half : Half) (c value next_c : ℕ) (path : List ℕ) (end : PlainRow) → length (steps_of arcs) ≤ width → slice_get halves c ≡ Some half
-          → GoesTo t best width layer values domain old old_next (steps_of arcs) next half value next_c → Reaches t (layer + 1) lower next_c path end → Reaches t layer halves c (value ∷ path) end
-      goes_exact next half c value next_c path end few at goes reaches =
-          let step = step_by t best layer values domain old old_next half value in
-          let found = targets_by t best layer values domain old old_next half value in
-          let has : Member value values = goes_value t best width layer values domain old old_next (steps_of arcs) next half value goes.goes in
-          let m : Member (arc_of step found) arcs = rows_have_arc marked values half halves (arc_of step found) (get_member halves c half at) (values_have_arc (marked half) value values step found has goes.marked) in
-          record {
-            half = half;
-            at = at;
-            exact = λ shape.
-                let shaped : HasShape t.down_shape step = keeps.down layer value half.down (small value has) shape in
-                let down : reaches.half.down ≡ step = arc_exact (arc_of step found) next_c reaches.half few m shaped goes.leads reaches.at in
-                reaches.exact (subst (HasShape t.down_shape) (sym down) shaped) ∙ ap (λ s. down_along t (layer + 1) s path) down;
-          }
+      module _ (keeps : KeepsShapes t) (small : AreSmall values) where
+        -- and so a path goes on from the row of an entry by the row that it leads to
+        pub goes_exact : (next : List PlainRow) (half : Half) (c value next_c : ℕ) (path : List ℕ) (end : PlainRow) → length (steps_of arcs) ≤ width → slice_get halves c ≡ Some half
+            → GoesTo t best width layer values domain old old_next (steps_of arcs) next half value next_c → Reaches t (layer + 1) lower next_c path end → Reaches t layer halves c (value ∷ path) end
+        goes_exact next half c value next_c path end few at goes reaches =
+            let step = step_by t best layer values domain old old_next half value in
+            let found = targets_by t best layer values domain old old_next half value in
+            let has : Member value values = goes_value t best width layer values domain old old_next (steps_of arcs) next half value goes.goes in
+            let m : Member (arc_of step found) arcs = rows_have_arc marked values half halves (arc_of step found) (get_member halves c half at) (values_have_arc (marked half) value values step found has goes.marked) in
+            record {
+              half = half;
+              at = at;
+              exact = λ shape.
+                  let shaped : HasShape t.down_shape step = keeps.down layer value half.down (small value has) shape in
+                  let down : reaches.half.down ≡ step = arc_exact (arc_of step found) next_c reaches.half few m shaped goes.leads reaches.at in
+                  reaches.exact (subst (HasShape t.down_shape) (sym down) shaped) ∙ ap (λ s. down_along t (layer + 1) s path) down;
+            }
 
-      layer_exact : (next : List PlainRow) (c value next_c : ℕ) (path : List ℕ) (row end : PlainRow) → length (distinct_states (steps_of_rows t layer values (map (finish_row (steps_of arcs) next) halves))) ≤ width
-          → slice_get (map (finish_row (steps_of arcs) next) halves) c ≡ Some row → NamesRow (entry_for values row.entries value) next_c → Reaches t (layer + 1) lower next_c path end → Reaches t layer halves c (value ∷ path) end
-      layer_exact next c value next_c path row end few at names reaches =
-          let made = made_at (finish_row (steps_of arcs) next) halves c row at in
-          let goes = named t best width layer values domain old old_next (steps_of arcs) next made.item value next_c (subst (λ (r : PlainRow). NamesRow (entry_for values r.entries value) next_c) made.is names) in
-          let fewer : length (steps_of arcs) ≤ width = subst (λ s. length (distinct_states s) ≤ width) (row_steps (steps_of arcs) next halves) few in
-          goes_exact next made.item c value next_c path end fewer made.at goes reaches
+        layer_exact : (next : List PlainRow) (c value next_c : ℕ) (path : List ℕ) (row end : PlainRow) → length (distinct_states (steps_of_rows t layer values (map (finish_row (steps_of arcs) next) halves))) ≤ width
+            → slice_get (map (finish_row (steps_of arcs) next) halves) c ≡ Some row → NamesRow (entry_for values row.entries value) next_c → Reaches t (layer + 1) lower next_c path end → Reaches t layer halves c (value ∷ path) end
+        layer_exact next c value next_c path row end few at names reaches =
+            let made = made_at (finish_row (steps_of arcs) next) halves c row at in
+            let goes = named t best width layer values domain old old_next (steps_of arcs) next made.item value next_c (subst (λ (r : PlainRow). NamesRow (entry_for values r.entries value) next_c) made.is names) in
+            let fewer : length (steps_of arcs) ≤ width = subst (λ s. length (distinct_states s) ≤ width) (row_steps (steps_of arcs) next halves) few in
+            goes_exact next made.item c value next_c path end fewer made.at goes reaches
 
   -- a path ends on the row that it begins on
   ends_exact : (layer c : ℕ) (halves : List Half) (make : Half → PlainRow) (end : PlainRow) → ((half : Half) → (make half).down ≡ half.down) → slice_get (map make halves) c ≡ Some end → Reaches t layer halves c [] end
@@ -124,7 +126,7 @@ module _ (t : Transitions) (best : ℤ) (width : ℕ) where
 
   -- ---- all layers
 
-  exact_along : (keeps : KeepsShapes t) (layer : ℕ) (values : List (List ℕ)) (domains : List ℕ) (halves : List Half) (old : List PlainRow) (olds : List (List PlainRow)) (c : ℕ) (path : List ℕ) (end : PlainRow) → AllSmall values
+  pub exact_along : (keeps : KeepsShapes t) (layer : ℕ) (values : List (List ℕ)) (domains : List ℕ) (halves : List Half) (old : List PlainRow) (olds : List (List PlainRow)) (c : ℕ) (path : List ℕ) (end : PlainRow) → AllSmall values
       → (let below = tight_from t best width layer values domains halves old olds in HasFewSteps t width layer values (below.first ∷ below.rest))
       → (let below = tight_from t best width layer values domains halves old olds in PathTo values (below.first ∷ below.rest) c path end)
       → Reaches t layer halves c path end
@@ -135,13 +137,13 @@ module _ (t : Transitions) (best : ℤ) (width : ℕ) where
   exact_along keeps layer (values ∷ more) (domain ∷ domains) halves old [] c _ end small few (path_goes_on at names path) = elim path [ ]
   exact_along keeps layer (values ∷ more) (domain ∷ domains) halves old (old_next ∷ olds) c _ end small few (path_ends at) = ends_exact layer c halves _ end (λ half. refl) at
   exact_along keeps layer (values ∷ more) (domain ∷ domains) halves old (old_next ∷ olds) c _ end (small_more small smaller) (few_on_layer few fewer) (path_goes_on {next = next_c} {value = value} {rest = rest} {row = row} at names path) =
-      let below = lower layer values domain old old_next keeps small halves in
-      layer_exact layer values domain old old_next keeps small halves (tight_from t best width (layer + 1) more domains below old_next olds).first c value next_c rest row end few at names
+      let below = lower layer values domain old old_next halves in
+      layer_exact layer values domain old old_next halves keeps small (tight_from t best width (layer + 1) more domains below old_next olds).first c value next_c rest row end few at names
       (exact_along keeps (layer + 1) more domains below old_next olds next_c rest end smaller fewer path)
 
 -- ---- groups
 
-sets_are_small : (sets : List ℕ) → AllSmall (map members sets)
+pub sets_are_small : (sets : List ℕ) → AllSmall (map members sets)
 sets_are_small [] = small_none
 sets_are_small (set ∷ sets) = small_more (members_small set) (sets_are_small sets)
 

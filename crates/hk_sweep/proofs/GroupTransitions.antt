@@ -9,11 +9,12 @@ use Rattle.hk_group.proofs.PartsRevised.{monotone_group, initial_up_shape, up_of
 use Rattle.hk_table.specs.Keeps.{Keeps, LieIn}
 use Rattle.hk_table.specs.Tables.{PlainRow}
 use Rattle.hk_sweep.specs.Loose.{IsLooseRevision, group_shape}
-use Rattle.hk_sweep.specs.Transitions.{transitions_of, layer_sets, up_along, AcceptsFrom, accepts_last, accepts_layer}
-use Rattle.hk_sweep.proofs.Kept.{IsRevisable, keeps}
+use Rattle.hk_sweep.specs.Transitions.{transitions_of, layer_sets}
+use Rattle.hk_sweep.proofs.ExactRuns.{up_along, AcceptsFrom, accepts_last, accepts_layer}
+use Rattle.hk_sweep.proofs.Kept.{AreRevisable, keeps}
 
 -- those of a group of monotone parts have what keeping needs
-pub group_is_revisable : (g : PlainGroup) → IsGroup g → All (λ (part : Part). IsMonotone part.bound) g.parts → IsRevisable (transitions_of g)
+pub group_is_revisable : (g : PlainGroup) → IsGroup g → All (λ (part : Part). IsMonotone part.bound) g.parts → AreRevisable (transitions_of g)
 group_is_revisable g rules monotone = let widens : IsMonotoneGroup g = monotone_group g monotone in record {
   down_steps = λ layer value wider state h. widens.down_steps layer value wider state h;
   up_steps = λ layer value wider state h. widens.up_steps layer value wider state h;

@@ -14,11 +14,12 @@ use Rattle.hk_table.specs.Tables.{PlainRow, NamesRow, by_live, by_dead, entry_fo
 use Rattle.hk_table.specs.declared.entries.Entry.{Entry}
 use Rattle.hk_table.specs.declared.entries.Entry.TheVariants.{Gone, Cut, Dead, Live}
 use Rattle.hk_sweep.specs.Loose.{LeadsTo, ReceivesStep, DeadCause, leads_nowhere, test_fails, IsDeadEnd, CoversUp, Begins, RowIsLoose, LastRowIsLoose, LayersAreLoose, last_is_loose, layer_is_loose, IsLoose}
-use Rattle.hk_sweep.specs.Transitions.{Transitions, up_along, AcceptsFrom, accepts_layer}
+use Rattle.hk_sweep.specs.Transitions.{Transitions}
+use Rattle.hk_sweep.proofs.ExactRuns.{up_along, AcceptsFrom, accepts_layer}
 
 -- what keeping needs of transitions: the steps of a state that covers another cover the other's, a test that holds goes
 -- on holding of states that cover, and the up states keep their shape
-pub record IsRevisable (t : Transitions) : Type 0 where
+pub record AreRevisable (t : Transitions) : Type 0 where
   pub down_steps : (layer value : ℕ) (wider state : List Prop) → StateCovers t.down_shape wider state → StateCovers t.down_shape (t.down layer value wider) (t.down layer value state)
   pub up_steps : (layer value : ℕ) (wider state : List Prop) → StateCovers t.up_shape wider state → StateCovers t.up_shape (t.up layer value wider) (t.up layer value state)
   pub test : (layer value : ℕ) (best : ℤ) (wider_down down wider_up up : List Prop) → StateCovers t.down_shape wider_down down → StateCovers t.up_shape wider_up up → IsTrue (t.passes layer value best down up) → IsTrue (t.passes layer value best wider_down wider_up)
@@ -60,7 +61,7 @@ pub record Follows (t : Transitions) (layer : ℕ) (values : List (List ℕ)) (l
   pub own : row.up ≡ Some up
   pub covers : StateCovers t.up_shape up (up_along t layer assignment)
 
-module _ (t : Transitions) (revisable : IsRevisable t) (best : ℤ) where
+module _ (t : Transitions) (revisable : AreRevisable t) (best : ℤ) where
   -- exact up states have the shape
   up_along_shape : (layer : ℕ) {sets values : List ℕ} → LieIn sets values → HasShape t.up_shape (up_along t layer values)
   up_along_shape layer lie_none = revisable.initial_up

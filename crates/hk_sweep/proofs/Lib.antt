@@ -1,6 +1,7 @@
 pub mod Arcs
 pub mod Entries
 pub mod Exact
+pub mod ExactRuns
 pub mod ExactSteps
 pub mod GroupTransitions
 pub mod Joins

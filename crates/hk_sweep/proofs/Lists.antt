@@ -12,9 +12,6 @@ pub head_or : {A : Type 0} (x y : A) (ys : List A) → Member x (y ∷ ys) → (
 head_or x y ys first = inl refl
 head_or x y ys (later m) = inr m
 
-pub same_member : {A : Type 0} (x y : A) (xs : List A) → x ≡ y → Member x xs → Member y xs
-same_member x y xs same m = subst (λ z. Member z xs) same m
-
 pub append_left : {A : Type 0} (x : A) (xs ys : List A) → Member x xs → Member x (xs ++ ys)
 append_left x _ ys first = first
 append_left x _ ys (later {xs = xs} m) = later (append_left x xs ys m)

@@ -1,4 +1,4 @@
--- What a loose revision of a table is: seven rules that keep every solution, and leave open how rows are merged.
+-- What a loose revision of a table is: seven rules that keep every solution.
 use Rattle.std.specs.Prelude.{◌≡◌, ℕ, ℤ, ◌+◌, ◌<◌, ◌↔◌, List, [], ◌∷◌, length, slice_get, All, Some, IsFalse}
 use Rattle.std.specs.List.Sorted.{IsStrictlyIncreasing}
 use Rattle.hk_base.specs.Sets.{Has}

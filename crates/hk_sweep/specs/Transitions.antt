@@ -1,5 +1,5 @@
 -- What a revision uses of a group: the shapes of its states, its initial states, its steps and its test.
-use Rattle.std.specs.Prelude.{ℕ, ℤ, ◌+◌, Bool, List, [], ◌∷◌, map, slice_index, IsTrue}
+use Rattle.std.specs.Prelude.{ℕ, ℤ, ◌+◌, Bool, List, [], ◌∷◌, map, slice_index}
 use Rattle.hk_kinds.specs.declared.kinds.Kind.{Kind}
 use Rattle.hk_kinds.specs.declared.properties.Prop.{Prop}
 use Rattle.hk_group.specs.Groups.{PlainGroup, group_down_shape, group_up_shape, group_initial_down, group_initial_up, group_down, group_up, group_passes}
@@ -35,13 +35,3 @@ layer_sets g sets = map (λ variable. slice_index sets variable) g.vars
 abbrev pub down_along : Transitions → ℕ → List Prop → List ℕ → List Prop
 down_along t layer state [] = state
 down_along t layer state (value ∷ values) = down_along t (layer + 1) (t.down layer value state) values
-
--- the up state before the values from a layer on: the initial one after the last, and a step back for each value
-abbrev pub up_along : Transitions → ℕ → List ℕ → List Prop
-up_along t layer [] = t.initial_up
-up_along t layer (value ∷ values) = t.up layer value (up_along t (layer + 1) values)
-
--- from a layer and the exact down state before it on, the test holds at each layer between the exact states
-pub data AcceptsFrom (t : Transitions) (best : ℤ) : ℕ → List Prop → List ℕ → Type 0 where
-  accepts_last : {layer : ℕ} {down : List Prop} → AcceptsFrom t best layer down []
-  accepts_layer : {layer value : ℕ} {down : List Prop} {values : List ℕ} → IsTrue (t.passes layer value best down (up_along t (layer + 1) values)) → AcceptsFrom t best (layer + 1) (t.down layer value down) values → AcceptsFrom t best layer down (value ∷ values)
