@@ -77,6 +77,7 @@ module _ (t : Transitions) (best : ℤ) (width : ℕ) where
     -- ---- one layer
 
     module _ (halves : List Half) where
+      -- the arcs of these rows, and the rows of the next layer
       abbrev pub arcs : List Arc
       arcs = arcs_of_rows marked values halves
 
@@ -126,6 +127,7 @@ module _ (t : Transitions) (best : ℤ) (width : ℕ) where
 
   -- ---- all layers
 
+  -- where each layer has few steps, a path begins on a row from which it leads to the exact down state
   pub exact_along : (keeps : KeepsShapes t) (layer : ℕ) (values : List (List ℕ)) (domains : List ℕ) (halves : List Half) (old : List PlainRow) (olds : List (List PlainRow)) (c : ℕ) (path : List ℕ) (end : PlainRow) → AllSmall values
       → (let below = tight_from t best width layer values domains halves old olds in HasFewSteps t width layer values (below.first ∷ below.rest))
       → (let below = tight_from t best width layer values domains halves old olds in PathTo values (below.first ∷ below.rest) c path end)
