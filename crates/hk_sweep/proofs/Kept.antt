@@ -1,5 +1,5 @@
 -- A loose revision keeps each assignment that the old table keeps, that lies in the domains and that is accepted.
-use Rattle.std.proofs.Common.{◌≡◌, ℕ, ℤ, Bool, true, false, ◌+◌, ◌<◌, ◌==◌, List, [], ◌∷◌, length, slice_get, All, Some, IsTrue, IsFalse, arith, sym, refl, ◌∙◌, subst}
+use Rattle.std.proofs.Common.{◌≡◌, ℕ, ℤ, Bool, true, false, ◌+◌, ◌<◌, ◌==◌, if◌then◌else◌, List, [], ◌∷◌, length, slice_get, All, Some, IsTrue, IsFalse, arith, sym, refl, ◌∙◌, subst}
 use Rattle.std.proofs.lemmas.Option.{same_Some, slice_get_within, get_or_from_slice_get}
 use Rattle.hk_base.specs.Sets.{Has}
 use Rattle.hk_kinds.specs.Covers.{StateCovers}
