@@ -61,6 +61,13 @@ const BAD_LINES: &[(&str, RefusalKind)] = &[
     ("group", RefusalKind::Later),
 ];
 
+/// Lines that are good, but for the number of those before them.
+const PAST_LINES: &[&str] = &[
+    "sequence 2 (x0, x1) {0} 0..1\n",
+    "gcc (x0) 0:0..1\n",
+    "among (x0) {0} 0..1\n",
+];
+
 /// The line below those above it.
 fn with_line(alloc: Global, line: &str) -> Result<Bytes, AllocError> {
     let mut text = List::new(alloc);
@@ -103,6 +110,13 @@ fn refused_zeros(alloc: Global, count: usize) -> Option<(u32, RefusalKind)> {
     refused(alloc, text.as_slice())
 }
 
+/// Why the line is refused as one constraint more than there may be.
+fn refused_past(alloc: Global, line: &[u8]) -> Option<(u32, RefusalKind)> {
+    let mut text = zeros(alloc, 64).ok()?;
+    text.push_all(line).ok()?;
+    refused(alloc, text.as_slice())
+}
+
 /// What values cost by it.
 fn judged_zeros(alloc: Global, count: usize, values: &[u8]) -> Option<Option<i64>> {
     let text = zeros(alloc, count).ok()?;
@@ -132,4 +146,12 @@ fn many_counts_are_judged(rt: HostRuntime) {
     assert_eq!(rt; judged_zeros(rt.alloc(), 64, &values), Some(None));
     let found = refused_zeros(rt.alloc(), 65);
     assert_eq!(rt; found, Some((322, RefusalKind::Limit)));
+}
+
+#[test]
+fn one_count_too_many_is_refused(rt: HostRuntime) {
+    for line in PAST_LINES {
+        let found = refused_past(rt.alloc(), line.as_bytes());
+        assert_eq!(rt; found, Some((322, RefusalKind::Limit)), "{line}");
+    }
 }
