@@ -15,14 +15,14 @@ use crate::kinds::RefusalKind;
 use crate::limits::is_small_set;
 use crate::repeats::are_once;
 use crate::scopes::places_of;
-use hk_base::List;
+use hk_base::{LIM, List};
 use hk_group::limits::{CONSTRAINTS, VALUES, WINDOW};
 use hk_group::{Constraint, is_rising};
 use hk_lines::{Counting, Row, set_of_values};
 use std::alloc::{AllocError, Global};
 
 /// How many variables a statement asks for at most.
-const TIMES: u64 = 1_000_000_000_000;
+const TIMES: u64 = LIM as u64;
 
 /// Declares how many of the variables of these names take a value of the set.
 pub fn declare_among(
