@@ -1,6 +1,6 @@
 //! What `among`, `sequence` and `gcc` declare.
 
-ghost use Rattle.std.specs.Prelude.{◌≡◌, ◌<◌, ◌≤◌, ◌↔◌, false, map, All, Some, IfOk, IfErr, IsTrue, OnOk};
+ghost use Rattle.std.specs.Prelude.{◌≡◌, ◌<◌, ◌≤◌, ◌↔◌, false, map, All, Some, IfOk, IfErr, IsTrue, OnErr, OnOk};
 ghost use Rattle.hk_lines.specs.Plain.{plain_counting, plain_row, rows_of};
 ghost use Rattle.hk_lines.specs.Statements.{Among, Sequence, Gcc};
 ghost use Rattle.hk_draft.specs.Declares.{IsSmallRow, IsWindow, made_row};
@@ -24,7 +24,8 @@ use std::alloc::{AllocError, Global};
 /// How many variables a statement asks for at most.
 const TIMES: u64 = LIM as u64;
 
-/// Declares how many of the variables of these names take a value of the set.
+/// Declares how many of the variables of these names take a value of the set. An error leaves the
+/// draft as it was.
 pub fn declare_among(
     alloc: Global,
     draft: &mut Draft,
@@ -32,6 +33,7 @@ pub fn declare_among(
 ) -> Result<(), LineFault>
     ensures ok { OnOk result (AddsAmong (plain_counting counting.now) draft.old draft.new) }
     ensures err { IfErr result (IsStatementFault (Some draft.old) (Among (plain_counting counting.now))) }
+    ensures unchanged { OnErr result (draft.new ≡ draft.old) }
 {
     let scope = places_of(alloc, draft, counting.names.as_slice())?;
     if !counting_fits(draft, counting) {
@@ -51,7 +53,8 @@ pub fn declare_among(
     Ok(())
 }
 
-/// Declares the same of each `window` of them that stand next to each other.
+/// Declares the same of each `window` of them that stand next to each other. An error leaves the
+/// draft as it was.
 pub fn declare_sequence(
     alloc: Global,
     draft: &mut Draft,
@@ -60,6 +63,7 @@ pub fn declare_sequence(
 ) -> Result<(), LineFault>
     ensures ok { OnOk result (AddsSequence window (plain_counting counting.now) draft.old draft.new) }
     ensures err { IfErr result (IsStatementFault (Some draft.old) (Sequence window (plain_counting counting.now))) }
+    ensures unchanged { OnErr result (draft.new ≡ draft.old) }
 {
     let scope = places_of(alloc, draft, counting.names.as_slice())?;
     if !is_window(window) {
@@ -108,7 +112,8 @@ fn is_window(window: u64) -> bool
     1 <= window && window <= u64::from(WINDOW)
 }
 
-/// Declares how many of the variables of these names take the value of each row.
+/// Declares how many of the variables of these names take the value of each row. An error leaves
+/// the draft as it was.
 pub fn declare_gcc(
     alloc: Global,
     draft: &mut Draft,
@@ -117,6 +122,7 @@ pub fn declare_gcc(
 ) -> Result<(), LineFault>
     ensures ok { OnOk result (AddsGcc (map (λ name. name.now) names.now) (rows_of rows.now) draft.old draft.new) }
     ensures err { IfErr result (IsStatementFault (Some draft.old) (Gcc (map (λ name. name.now) names.now) (rows_of rows.now))) }
+    ensures unchanged { OnErr result (draft.new ≡ draft.old) }
 {
     let once = are_once(alloc, rows)?;
     if !once {

@@ -1,6 +1,6 @@
 //! What a line declares, after the lines before it.
 
-ghost use Rattle.std.specs.Prelude.{◌≡◌, All, ◌↔◌, false, map, None, Some, IsTrue, OnOk, IfErr};
+ghost use Rattle.std.specs.Prelude.{◌≡◌, All, ◌↔◌, false, map, None, Some, IsTrue, OnErr, OnOk, IfErr};
 ghost use Rattle.hk_lines.specs.Plain.{values_of, terms_of, statement_of};
 ghost use Rattle.hk_draft.specs.inside.Fits.{AddsDistinct, AddsTotal, AddsLeast, FitsVariable, FitsTotal};
 ghost use Rattle.hk_draft.specs.Faults.{IsStatementFault, IsLimitFault};
@@ -21,10 +21,11 @@ use hk_lines::{Shape, Term, Values, set_of_values};
 use std::alloc::Global;
 
 /// Declares what a line of this shape says, after what was declared before it: None before the
-/// header.
+/// header. An error leaves the draft as it was; that there is no memory has no cause in the model.
 pub fn declare(alloc: Global, draft: &mut Option<Draft>, shape: &Shape<'_>) -> Result<(), LineFault>
     ensures ok { OnOk result (Declares draft.old (statement_of shape.now) draft.new) }
     ensures err { IfErr result (IsStatementFault draft.old (statement_of shape.now)) }
+    ensures unchanged { OnErr result (draft.new ≡ draft.old) }
 {
     match shape {
         Shape::Start => start(alloc, draft),
@@ -59,10 +60,11 @@ pub fn declare(alloc: Global, draft: &mut Option<Draft>, shape: &Shape<'_>) -> R
     }
 }
 
-/// Begins the draft, where it isn't begun.
+/// Begins the draft, where it isn't begun: else it stays as it was.
 fn start(alloc: Global, draft: &mut Option<Draft>) -> Result<(), LineFault>
     ensures ok { OnOk result ((draft.old ≡ None) × (draft.new ≡ Some empty_problem)) }
     ensures err { IfErr result (IsStatementFault draft.old Header) }
+    ensures unchanged { OnErr result (draft.new ≡ draft.old) }
 {
     if draft.is_some() {
         return Err(LineFault::Bad(RefusalKind::Syntax));
@@ -71,7 +73,7 @@ fn start(alloc: Global, draft: &mut Option<Draft>) -> Result<(), LineFault>
     Ok(())
 }
 
-/// Declares a variable.
+/// Declares a variable. An error leaves the draft as it was.
 fn declare_variable(
     alloc: Global,
     draft: &mut Draft,
@@ -80,6 +82,7 @@ fn declare_variable(
 ) -> Result<(), LineFault>
     ensures ok { OnOk result (AddsVariable name.now (values_of set.now) draft.old draft.new) }
     ensures err { IfErr result (IsStatementFault (Some draft.old) (Variable name.now (values_of set.now))) }
+    ensures unchanged { OnErr result (draft.new ≡ draft.old) }
 {
     if draft.place_of(name).is_some() {
         return Err(LineFault::Bad(RefusalKind::Name));
@@ -108,10 +111,11 @@ fn variable_passes_limit(draft: &Draft, name: &[u8], set: &[Values]) -> bool
     set.iter().any(|values| values.last >= u64::from(VALUES) || values.last < values.first)
 }
 
-/// Declares that the variables of these names differ.
+/// Declares that the variables of these names differ. An error leaves the draft as it was.
 fn declare_distinct(alloc: Global, draft: &mut Draft, names: &[&[u8]]) -> Result<(), LineFault>
     ensures ok { OnOk result (AddsDistinct (map (λ name. name.now) names.now) draft.old draft.new) }
     ensures err { IfErr result (IsStatementFault (Some draft.old) (Distinct (map (λ name. name.now) names.now))) }
+    ensures unchanged { OnErr result (draft.new ≡ draft.old) }
 {
     let scope = places_of(alloc, draft, names)?;
     if draft.constraint_count() >= CONSTRAINTS {
@@ -126,7 +130,8 @@ fn declare_distinct(alloc: Global, draft: &mut Draft, names: &[&[u8]]) -> Result
     Ok(())
 }
 
-/// Declares that the sum of the terms lies from `least` to `most`.
+/// Declares that the sum of the terms lies from `least` to `most`. An error leaves the draft as it
+/// was.
 fn declare_total(
     alloc: Global,
     draft: &mut Draft,
@@ -136,6 +141,7 @@ fn declare_total(
 ) -> Result<(), LineFault>
     ensures ok { OnOk result (AddsTotal terms.now least most draft.old draft.new) }
     ensures err { IfErr result (IsStatementFault (Some draft.old) (Total (terms_of terms.now) least most)) }
+    ensures unchanged { OnErr result (draft.new ≡ draft.old) }
 {
     let scope = term_places(alloc, draft, terms)?;
     if total_passes_limit(draft, terms, least, most) {
@@ -180,10 +186,11 @@ fn total_passes_limit(draft: &Draft, terms: &[Term<'_>], least: i64, most: i64) 
     !are_coefficients(terms)
 }
 
-/// Declares that the sum of the terms is to be least.
+/// Declares that the sum of the terms is to be least. An error leaves the draft as it was.
 fn declare_objective(alloc: Global, draft: &mut Draft, terms: &[Term<'_>]) -> Result<(), LineFault>
     ensures ok { OnOk result (AddsLeast terms.now draft.old draft.new) }
     ensures err { IfErr result (IsStatementFault (Some draft.old) (Objective (terms_of terms.now))) }
+    ensures unchanged { OnErr result (draft.new ≡ draft.old) }
 {
     let scope = term_places(alloc, draft, terms)?;
     if draft.has_objective() {

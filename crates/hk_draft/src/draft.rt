@@ -1,6 +1,6 @@
 //! A problem that grows line by line.
 
-ghost use Rattle.std.specs.Prelude.{◌≡◌, ◌<◌, ◌↔◌, ◌∷◌, ◌++◌, [], length, All, None, Some, IsSome, IsTrue, OnOk, IfOk, map};
+ghost use Rattle.std.specs.Prelude.{◌≡◌, ◌<◌, ◌↔◌, ◌∷◌, ◌++◌, [], length, All, None, Some, IsSome, IsTrue, OnErr, OnOk, IfOk, map};
 ghost use Rattle.indexmap.specs.IndexMap.{keys, values};
 ghost use Rattle.std.specs.List.Sorted.{IsStrictlyIncreasing};
 ghost use Rattle.hk_group.specs.Problems.{IsValid};
@@ -91,7 +91,8 @@ impl Draft {
         scope.len() as u16
     }
 
-    /// Declares a variable under a name that no other has.
+    /// Declares a variable under a name that no other has. Where there is no memory, the draft stays
+    /// as it was.
     pub fn add_variable(
         &mut self,
         alloc: Global,
@@ -100,20 +101,22 @@ impl Draft {
     ) -> Result<(), AllocError>
         requires new { place_of self.old.names name.now ≡ None }
         requires room { length self.old.names < most_variables }
-        ensures { OnOk result (self.new ≡ record self.old {
+        ensures ok { OnOk result (self.new ≡ record self.old {
           names = self.old.names ++ name.now ∷ [];
           domains = self.old.domains ++ domain ∷ [];
         }) }
+        ensures unchanged { OnErr result (self.new ≡ self.old) }
     {
         self.variables.insert(name.to_vec(alloc)?, domain)?;
         Ok(())
     }
 
-    /// Declares a constraint.
+    /// Declares a constraint. Where there is no memory, the draft stays as it was.
     pub fn add_constraint(&mut self, constraint: Constraint) -> Result<(), AllocError>
-        ensures { OnOk result (self.new ≡ record self.old {
+        ensures ok { OnOk result (self.new ≡ record self.old {
           constraints = self.old.constraints ++ constraint ∷ [];
         }) }
+        ensures unchanged { OnErr result (self.new ≡ self.old) }
     {
         self.constraints.push(constraint)?;
         Ok(())

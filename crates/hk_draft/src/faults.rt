@@ -8,7 +8,7 @@ use std::alloc::AllocError;
 pub enum LineFault {
     /// The line is bad, and this is the first kind of its faults.
     Bad(RefusalKind),
-    /// There is no memory for the line.
+    /// There is no memory for the line: the model isn't its cause, and it says nothing of the line.
     NoMemory,
 }
 

@@ -5,8 +5,8 @@ use Rattle.hk_draft.specs.Declares.{place_of}
 use Rattle.hk_draft.proofs.Naming.{Key, names_of, problem_of, insert_entry-named, problem_of-push}
 use Rattle.hk_draft.proofs.draft.Draft.add_variable.Goals as goal
 
-pub returns : goal.returns
-returns c =
+pub returns-clause-ok : goal.returns-clause-ok
+returns-clause-ok c =
     let entries = c.self.inside.variables.entries in
     let constraints = c.self.inside.constraints in
     let objective = c.self.inside.objective in
