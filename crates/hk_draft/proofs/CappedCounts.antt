@@ -1,11 +1,10 @@
 -- What among, sequence and gcc count is the same when it is capped, where it is within the limits.
 use Rattle.std.proofs.Common.{◌≡◌, ◌≢◌, ℕ, List, [], ◌∷◌, map, refl, sym, ap, subst, arith}
 use Rattle.std.specs.Prelude.{All, AllPairs}
-use Rattle.std.proofs.lemmas.List.Elements.{All-head, All-tail}
 use Rattle.hk_lines.specs.Phrases.{Row, Counting}
 use Rattle.hk_lines.specs.Shapes.{capped, capped_counting, capped_row}
 use Rattle.hk_draft.specs.Declares.{IsSmallCounting, IsWindow, IsSmallRow, row_digits, AreOnce}
-use Rattle.hk_draft.proofs.CappedNumbers.{same_small, kept_small, same_set, kept_set}
+use Rattle.hk_draft.proofs.CappedNumbers.{same_small, kept_small, same_set, kept_set, map_same, map_kept}
 
 -- a counting whose cap is within the limits, or which is within them itself, is the same when it is capped
 pub same_counting : (counting : Counting) → IsSmallCounting (capped_counting counting) → capped_counting counting ≡ counting
@@ -48,18 +47,10 @@ kept_row row is =
 
 -- and rows
 pub same_rows : (rows : List Row) → All IsSmallRow (map capped_row rows) → map capped_row rows ≡ rows
-same_rows [] small = refl
-same_rows (row ∷ rows) small =
-    let first = same_row row (All-head IsSmallRow (capped_row row) (map capped_row rows) small) in
-    let rest = same_rows rows (All-tail IsSmallRow (capped_row row) (map capped_row rows) small) in
-    λ i. first i ∷ rest i
+same_rows = map_same IsSmallRow capped_row same_row
 
 pub kept_rows : (rows : List Row) → All IsSmallRow rows → map capped_row rows ≡ rows
-kept_rows [] small = refl
-kept_rows (row ∷ rows) small =
-    let first = kept_row row (All-head IsSmallRow row rows small) in
-    let rest = kept_rows rows (All-tail IsSmallRow row rows small) in
-    λ i. first i ∷ rest i
+kept_rows = map_kept IsSmallRow capped_row kept_row
 
 -- capping changes no digits, so rows list a value twice when they are capped where they do so
 same_digits : (rows : List Row) → row_digits (map capped_row rows) ≡ row_digits rows

@@ -57,3 +57,18 @@ kept_set (values ∷ set) ordered within =
     let last : capped values.last ≡ values.last = kept_small values.last 127 (omega (arith, small)) (omega arith) in
     let item : capped_values values ≡ values = λ i. record { first = first i; last = last i } in
     λ i. item i ∷ rest i
+
+-- a function leaves a list the same where it does so with each element of which something holds, once the function is applied to it or before
+pub map_same : {X : Type 0} (P : X → Type 0) (f : X → X) → ((x : X) → P (f x) → f x ≡ x) → (xs : List X) → All P (map f xs) → map f xs ≡ xs
+map_same P f same [] all = refl
+map_same P f same (x ∷ xs) all =
+    let first = same x (All-head P (f x) (map f xs) all) in
+    let rest = map_same P f same xs (All-tail P (f x) (map f xs) all) in
+    λ i. first i ∷ rest i
+
+pub map_kept : {X : Type 0} (P : X → Type 0) (f : X → X) → ((x : X) → P x → f x ≡ x) → (xs : List X) → All P xs → map f xs ≡ xs
+map_kept P f same [] all = refl
+map_kept P f same (x ∷ xs) all =
+    let first = same x (All-head P x xs all) in
+    let rest = map_kept P f same xs (All-tail P x xs all) in
+    λ i. first i ∷ rest i

@@ -44,14 +44,14 @@ within_since size n none = by (dec_within size n)
     by (no large) = absurd (none large)
 
 -- what is not refuted is no greater
-le_since : (m n : ℕ) → (n < m → ⊥) → m ≤ n
+pub le_since : (m n : ℕ) → (n < m → ⊥) → m ≤ n
 le_since m n none = ⊎_elim (λ less. absurd (none less)) (λ le. le) (cases_lt n m)
 
-lt_since : (m n : ℕ) → (n ≤ m → ⊥) → m < n
+pub lt_since : (m n : ℕ) → (n ≤ m → ⊥) → m < n
 lt_since m n none = ⊎_elim (λ less. less) (λ le. absurd (none le)) (cases_lt m n)
 
 -- an option that is not some is none
-none_since : {A : Type 0} (o : Option A) → (IsSome o → ⊥) → o ≡ None
+pub none_since : {A : Type 0} (o : Option A) → (IsSome o → ⊥) → o ≡ None
 none_since None none = refl
 none_since (Some x) none = absurd (none refl)
 
