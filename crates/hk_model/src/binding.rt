@@ -1,6 +1,6 @@
 //! What a post declares, after the lines before it.
 
-ghost use Rattle.std.specs.Prelude.{◌≡◌, ◌≤◌, ◌<◌, ◌↔◌, ◌⊎◌, ℕ, All, Any, false, length, map, None, Some, IsNone, IsTrue, OnOk, IfOk, IfErr, IfSome};
+ghost use Rattle.std.specs.Prelude.{◌≡◌, ◌≤◌, ◌<◌, ◌↔◌, ◌⊎◌, ℕ, All, Any, false, length, map, None, Some, IsNone, IsTrue, OnErr, OnOk, IfOk, IfErr, IfSome};
 ghost use Rattle.hk_group.specs.Limits.{most_constraints, value_count, greatest_coefficient};
 ghost use Rattle.hk_model.specs.Postings.{AddsPost, FitsKind, FitKinds, IsSmallArg, IsArgOf, AreArgsOf, spec_of};
 ghost use Rattle.hk_model.specs.inside.PostFaults.{HasNoFit, IsPostFault};
@@ -17,7 +17,7 @@ use hk_spec::{Arg, Bound, Param, ParamKind, Spec};
 use std::alloc::{AllocError, Global};
 
 /// Declares what a post of this shape says, after the specifications and the problem that were
-/// declared before it.
+/// declared before it. An error leaves the draft as it was.
 pub fn post(
     alloc: Global,
     draft: &mut Draft,
@@ -26,6 +26,7 @@ pub fn post(
 ) -> Result<(), LineFault>
     ensures ok { OnOk result (AddsPost specs.now (plain_post shape.now) draft.old draft.new) }
     ensures err { IfErr result (IsPostFault specs.now draft.old (plain_post shape.now)) }
+    ensures unchanged { OnErr result (draft.new ≡ draft.old) }
 {
     add_post(
         alloc,
@@ -38,7 +39,7 @@ pub fn post(
 }
 
 /// Declares that the specification of this name, with these arguments, accepts the values of the
-/// variables of these names.
+/// variables of these names. An error leaves the draft as it was.
 fn add_post(
     alloc: Global,
     draft: &mut Draft,
@@ -49,6 +50,7 @@ fn add_post(
 ) -> Result<(), LineFault>
     ensures ok { OnOk result (AddsPost specs.now (record { spec = name.now; args = args_of args.now; names = map (λ n. n.now) names.now }) draft.old draft.new) }
     ensures err { IfErr result (IsPostFault specs.now draft.old (record { spec = name.now; args = args_of args.now; names = map (λ n. n.now) names.now })) }
+    ensures unchanged { OnErr result (draft.new ≡ draft.old) }
 {
     let Some(spec) = fitting_spec(specs, name, args) else {
         return Err(LineFault::Bad(RefusalKind::Name));

@@ -1,6 +1,6 @@
 //! What the lines read so far declare, and what one line more declares.
 
-ghost use Rattle.std.specs.Prelude.{◌≡◌, ◌↔◌, ◌⊎◌, ◌∷◌, [], List as Seq, ℕ, length, All, None, Some, IsNone, IfSome, IsSome, IsTrue, OnOk, IfOk, IfErr, codes};
+ghost use Rattle.std.specs.Prelude.{◌≡◌, ◌↔◌, ◌⊎◌, ◌∷◌, [], List as Seq, ℕ, length, All, None, Some, IsNone, IfSome, IsSome, IsTrue, OnErr, OnOk, IfOk, IfErr, codes};
 ghost use Rattle.hk_parse.specs.BlockLines.{MayStand};
 ghost use Rattle.hk_parse.specs.LineTexts.{End};
 ghost use Rattle.hk_text.specs.Lexemes.{IsWord};
@@ -85,12 +85,15 @@ impl Declared {
         draft
     }
 
-    /// Takes the tokens of one line.
+    /// Takes the tokens of one line. An error leaves the problem and the specifications as they
+    /// were, and outside of a specification all.
     pub fn read(&mut self, alloc: Global, line: &[u8], tokens: &[Token]) -> Result<(), LineFault>
         requires has { HasTexts line.now (texts_of line.now tokens.now) }
         requires within { All (IsTokenIn line.now) tokens.now }
         ensures ok { OnOk result (IsGoodLine self.old line.now self.new) }
         ensures err { IfErr result (IsLineFault self.old line.now) }
+        ensures kept { OnErr result (self.new ≡ record self.old { block = self.new.block }) }
+        ensures unchanged { self.old.block ≡ None → OnErr result (self.new ≡ self.old) }
     {
         if tokens.is_empty() {
             return Ok(());
@@ -112,7 +115,7 @@ impl Declared {
         self.draft.is_some()
     }
 
-    /// Takes the tokens of a line outside of a specification.
+    /// Takes the tokens of a line outside of a specification. An error leaves all as it was.
     fn read_outside(
         &mut self,
         alloc: Global,
@@ -125,6 +128,7 @@ impl Declared {
         requires outside { self.old.block ≡ None }
         ensures ok { OnOk result (IsGoodLine self.old line.now self.new) }
         ensures err { IfErr result (IsLineFault self.old line.now) }
+        ensures unchanged { OnErr result (self.new ≡ self.old) }
     {
         if self.is_later(line, tokens) {
             return Err(LineFault::Bad(RefusalKind::Later));
@@ -150,24 +154,26 @@ impl Declared {
         self.is_started() && begins_later(line, tokens)
     }
 
-    /// Declares what a line of this shape says.
+    /// Declares what a line of this shape says. An error leaves all as it was.
     fn declare(&mut self, alloc: Global, shape: Shape<'_>) -> Result<(), LineFault>
         requires outside { self.old.block ≡ None }
         ensures ok { OnOk result (Declares self.old.problem (statement_of shape.entry) self.new.problem × (self.new ≡ record self.old { problem = self.new.problem })) }
         ensures err { IfErr result (IsStatementFault self.old.problem (statement_of shape.entry)) }
+        ensures unchanged { OnErr result (self.new ≡ self.old) }
     {
         let answer = declare(alloc, &mut self.draft, &shape);
         drop(shape);
         answer
     }
 
-    /// Takes the tokens after `post`, outside of a specification.
+    /// Takes the tokens after `post`, outside of a specification. An error leaves all as it was.
     fn read_post(&mut self, alloc: Global, line: &[u8], tokens: &[Token]) -> Result<(), LineFault>
         requires has { HasTexts line.now (codes "post" ∷ texts_of line.now tokens.now) }
         requires within { All (IsTokenIn line.now) tokens.now }
         requires outside { self.old.block ≡ None }
         ensures ok { OnOk result (IsGoodLine self.old line.now self.new) }
         ensures err { IfErr result (IsLineFault self.old line.now) }
+        ensures unchanged { OnErr result (self.new ≡ self.old) }
     {
         match post_of(alloc, line, tokens) {
             Ok(Some(shape)) => self.post(alloc, shape),
@@ -176,10 +182,11 @@ impl Declared {
         }
     }
 
-    /// Declares what a post of this shape says.
+    /// Declares what a post of this shape says. An error leaves all as it was.
     fn post(&mut self, alloc: Global, shape: PostShape<'_>) -> Result<(), LineFault>
         ensures ok { OnOk result (Posts self.old (plain_post shape.entry) self.new) }
         ensures err { IfErr result (IsPostFaultAfter self.old (plain_post shape.entry)) }
+        ensures unchanged { OnErr result (self.new ≡ self.old) }
     {
         let answer = match &mut self.draft {
             None => Err(LineFault::Bad(RefusalKind::Syntax)),
@@ -189,7 +196,8 @@ impl Declared {
         answer
     }
 
-    /// Opens the specification whose first line has these tokens, of which the first is `spec`.
+    /// Opens the specification whose first line has these tokens, of which the first is `spec`. An
+    /// error leaves all as it was.
     fn open(&mut self, alloc: Global, line: &[u8], tokens: &[Token]) -> Result<(), LineFault>
         requires has { HasTexts line.now (texts_of line.now tokens.now) }
         requires within { All (IsTokenIn line.now) tokens.now }
@@ -197,6 +205,7 @@ impl Declared {
         requires outside { self.old.block ≡ None }
         ensures ok { OnOk result (IsGoodLine self.old line.now self.new) }
         ensures err { IfErr result (IsLineFault self.old line.now) }
+        ensures unchanged { OnErr result (self.new ≡ self.old) }
     {
         if !self.is_started() {
             return Err(LineFault::Bad(RefusalKind::Syntax));
@@ -255,11 +264,13 @@ impl Declared {
         self.specs.as_slice().len()
     }
 
-    /// Ends the specification that is open, where its end may stand.
+    /// Ends the specification that is open, where its end may stand. Where there is no memory, it is
+    /// lost, and nothing else.
     fn end(&mut self) -> Result<(), LineFault>
         requires { IfSome self.old.block (λ part. MayStand part End) }
         ensures ok { OnOk result (IfSome self.old.block (λ part. EndsBlock self.old part self.new)) }
         ensures err { IfErr result (λ fault. fault ≡ LineFault.NoMemory) }
+        ensures kept { OnErr result (self.new ≡ record self.old { block = self.new.block }) }
     {
         let Some(block) = self.block.take() else {
             return Ok(());

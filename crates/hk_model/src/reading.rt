@@ -1,6 +1,6 @@
 //! The lines of a model, one after the other, to the last or the first bad one.
 
-ghost use Rattle.std.specs.Prelude.{◌≤◌, length, OnOk, IfOk, IfErr};
+ghost use Rattle.std.specs.Prelude.{◌≡◌, ◌≤◌, length, OnErr, OnOk, IfOk, IfErr};
 ghost use Rattle.hk_model.specs.inside.Faults.{IsLineFault};
 ghost use Rattle.hk_model.specs.Models.{IsGoodLine, Spells};
 ghost use Rattle.hk_model.specs.Refused.{IsErrorOf};
@@ -15,7 +15,8 @@ use std::alloc::Global;
 
 /// The problem that the bytes of a model spell. Else the refusal tells the first bad line and the
 /// first kind of its faults, in the order of `RefusalKind`. Where all lines are good and none is the
-/// header, or a specification isn't ended, the line after the last is Unfinished.
+/// header, or a specification isn't ended, the line after the last is Unfinished. Want of memory
+/// has no cause in the model, and may be told of any.
 pub fn read_model(alloc: Global, bytes: &[u8]) -> Result<Problem, ModelError>
     requires { length bytes.now ≤ 1048576 }
     ensures spells { IfOk result (Spells bytes.now) }
@@ -42,11 +43,13 @@ pub fn read_model(alloc: Global, bytes: &[u8]) -> Result<Problem, ModelError>
     }
 }
 
-/// Takes one line, after what was declared before it.
+/// Takes one line, after what was declared before it. An error leaves the problem and the
+/// specifications as they were.
 fn read_line(alloc: Global, declared: &mut Declared, line: &[u8]) -> Result<(), LineFault>
     requires { length line.now ≤ 1048576 }
     ensures ok { OnOk result (IsGoodLine declared.old line.now declared.new) }
     ensures err { IfErr result (IsLineFault declared.old line.now) }
+    ensures kept { OnErr result (declared.new ≡ record declared.old { block = declared.new.block }) }
 {
     match tokens(alloc, line) {
         Ok(found) => declared.read(alloc, line, found.as_slice()),

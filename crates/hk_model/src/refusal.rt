@@ -14,8 +14,10 @@ pub struct Refusal {
 /// Why no problem was read.
 #[derive(Debug, Drop, Error)]
 pub enum ModelError {
+    /// The model is refused.
     #[error("the model is refused at line {}", .0.line)]
     Refused(Refusal),
+    /// There was no memory for the model: the model isn't its cause, and it says nothing of the model.
     #[error("no memory for the model")]
     Memory,
 }
