@@ -19,7 +19,7 @@ use Rattle.hk_text.proofs.Deciding.{dec_test}
 use Rattle.hk_model.proofs.FaultRanks.{has_texts, later_begins, first_text, first_later, first_syntax, first_name, first_limit, first_scope, first_grade}
 use Rattle.hk_model.proofs.Meanings.{Meaning, Means, none_say_nothing, dec_means}
 use Rattle.hk_model.proofs.MeantEffects.{meant_good}
-use Rattle.hk_model.proofs.MeantFaults.{NameFaultIn, LimitFaultIn, ScopeFaultIn, GradeFaultIn, dec_name_in, dec_limit_in, dec_scope_in, dec_grade_in, meant_effect, header_effect}
+use Rattle.hk_model.proofs.MeantFaults.{FaultIn, dec_name_in, dec_limit_in, dec_scope_in, dec_grade_in, meant_effect, header_effect}
 use Rattle.hk_model.proofs.Soundness.{IsSound}
 
 -- the line is good, or it has a first fault
@@ -45,20 +45,20 @@ dec_later before {line = line} {word = word} {more = more} has = by before.probl
 
 module _ {before : Declared} {line : List ℕ} {texts : List (List ℕ)} {m : Meaning} (sound : IsSound before) (has : HasTexts line texts) (means : Means before texts m) where
   -- a line after the header that means something without faults has an effect
-  by_faults : (problem : PlainProblem) → before.problem ≡ Some problem → Dec (NameFaultIn before problem m) → Dec (LimitFaultIn before problem m) → Dec (ScopeFaultIn problem m) → Judged before line
+  by_faults : (problem : PlainProblem) → before.problem ≡ Some problem → Dec (FaultIn before problem Name m) → Dec (FaultIn before problem Limit m) → Dec (FaultIn before problem Scope m) → Judged before line
   by_faults problem started (yes named) limited unordered = found_fault Name (first_name has started means named)
   by_faults problem started (no named) (yes limited) unordered = found_fault Limit (first_limit has started means limited named)
   by_faults problem started (no named) (no limited) (yes unordered) = found_fault Scope (first_scope has started means unordered named limited)
   by_faults problem started (no named) (no limited) (no unordered) = by_grade (dec_grade_in problem sound means named limited)
     where
-      by_grade : Dec (GradeFaultIn m) → Judged before line
+      by_grade : Dec (FaultIn before problem Grade m) → Judged before line
       by_grade (yes ungraded) = found_fault Grade (first_grade has started means ungraded named limited unordered)
       by_grade (no graded) = let effect = meant_effect sound started means named limited unordered graded in found_good effect.0 (meant_good has means effect.1)
 
   -- a line that means something is good or has a fault
   by_place : (problem : Option PlainProblem) → before.problem ≡ problem → Judged before line
   by_place None start = let effect = header_effect sound start means in found_good effect.0 (meant_good has means effect.1)
-  by_place (Some problem) start = by_faults problem start (dec_name_in before problem m) (dec_limit_in before problem m) (dec_scope_in problem m)
+  by_place (Some problem) start = by_faults problem start (dec_name_in before problem m) (dec_limit_in before problem m) (dec_scope_in before problem m)
 
 -- a line with tokens that is not Later is good where they mean something and it has no fault
 by_meaning : {before : Declared} {line : List ℕ} {texts : List (List ℕ)} → IsSound before → HasTexts line texts → texts ≢ [] → (IsLaterLine before line → ⊥) → Dec ((m : Meaning) × Means before texts m) → Judged before line

@@ -4,7 +4,7 @@ use Rattle.std.proofs.Common.{◌≡◌, ◌≢◌, ℕ, List, [], Option, None,
 use Rattle.hk_draft.specs.declared.faults.LineFault.{LineFault}
 use Rattle.hk_draft.specs.declared.faults.LineFault.TheVariants.{Bad, NoMemory}
 use Rattle.hk_draft.specs.declared.kinds.RefusalKind.{RefusalKind}
-use Rattle.hk_draft.specs.declared.kinds.RefusalKind.TheVariants.{Text, Later, Syntax, Name, Limit, Scope, Grade, Unfinished}
+use Rattle.hk_draft.specs.declared.kinds.RefusalKind.TheVariants.{Syntax, Name, Limit, Scope}
 use Rattle.hk_lines.specs.declared.shapes.Shape.{Shape}
 use Rattle.hk_lines.specs.Plain.{statement_of}
 use Rattle.hk_model.specs.inside.Faults.{IsLineFault}
@@ -43,19 +43,13 @@ module _ {before : Declared} {line : List ℕ} {texts : List (List ℕ)} {s : St
 
   -- the first fault of a statement is that of the line that says it
   pub line_fault : (problem : Option PlainProblem) → before.problem ≡ problem → (kind : RefusalKind) → IsFaultyStatement problem s kind → IsFirstFault before line kind
-  line_fault problem started Text fault = absurd fault
-  line_fault problem started Later fault = absurd fault
   line_fault problem started Syntax none =
       first_syntax has (said_some says) (none_say_nothing (λ m means. no_meaning before out says (λ stands. none (subst (λ p. MayStand p s) started stands)) means)) said_not_later
-  line_fault None started Name fault = absurd fault
   line_fault (Some problem) started Name fault = first_name has started (means_statement out says (subst (λ p. MayStand p s) (sym started) (named_stands fault))) fault
-  line_fault None started Limit fault = absurd fault
   line_fault (Some problem) started Limit (fault, no_name) = first_limit has started (means_statement out says (subst (λ p. MayStand p s) (sym started) (limited_stands fault))) fault no_name
-  line_fault None started Scope fault = absurd fault
   line_fault (Some problem) started Scope (fault, no_name, no_limit) =
       first_scope has started (means_statement out says (subst (λ p. MayStand p s) (sym started) (unordered_stands s fault))) fault no_name no_limit
-  line_fault problem started Grade fault = absurd fault
-  line_fault problem started Unfinished fault = absurd fault
+  line_fault problem started kind fault = absurd fault
 
 module _ {line : List ℕ} {texts : List (List ℕ)} (has : HasTexts line texts) (shape : Shape) (shaped : IsShapeOf texts shape) (before : Declared) (out : before.block ≡ None) where
   -- where the reader stops at a statement of a line, it stops at the line

@@ -14,7 +14,7 @@ use Rattle.hk_model.specs.LineFaults.{SayNothingAfter}
 use Rattle.hk_model.specs.Models.{Declared, IsGoodLine, good_inside, good_end, wrong_latest}
 use Rattle.hk_model.proofs.FaultRanks.{first_syntax, first_name, first_limit, first_grade, fault_bad}
 use Rattle.hk_model.proofs.Meanings.{means_inside, outside_inside}
-use Rattle.hk_model.proofs.MeantEffects.{started_problem}
+use Rattle.hk_model.proofs.MeantEffects.{some_value}
 
 module _ (before : Declared) {line : List ℕ} {texts : List (List ℕ)} {part : Part} (has : HasTexts line texts) (is : before.block ≡ Some part) where
   -- the open specification keeps its rules
@@ -27,17 +27,17 @@ module _ (before : Declared) {line : List ℕ} {texts : List (List ℕ)} {part :
       let first = first_syntax has some (subst (λ opened. SayNothingAfter (record before { block = opened }) texts) (sym is) none) (λ later. outside_inside later.outside is) in
       (fault_bad (parts rules) first.fault, first)
   fault_inside rules some started block.Name (text, says, stands, fault) =
-      let first = first_name has (started_problem before.problem started).1 (means_inside is says stands) fault in
+      let first = first_name has (some_value before.problem started).1 (means_inside is says stands) fault in
       (fault_bad (parts rules) first.fault, first)
   fault_inside rules some started block.Limit (text, says, stands, no_name, fault) =
-      let first = first_limit has (started_problem before.problem started).1 (means_inside is says stands) fault no_name in
+      let first = first_limit has (some_value before.problem started).1 (means_inside is says stands) fault no_name in
       (fault_bad (parts rules) first.fault, first)
   fault_inside rules some started block.Memory nothing = tt
 
   -- a line whose test or step hasn't an allowed sense has the fault Grade first
   pub ungraded_inside : {after : Part} → IsPart part → IsSome before.problem → GoesOn part texts after → IsSome (wrong_latest after) → IsLineFault before line (Bad Grade)
   ungraded_inside {after = after} rules started more wrong =
-      let first = first_grade has (started_problem before.problem started).1 (means_inside is more.says more.good.stands) (after, more.good, wrong) more.good.named more.good.small (λ none. none) in
+      let first = first_grade has (some_value before.problem started).1 (means_inside is more.says more.good.stands) (after, more.good, wrong) more.good.named more.good.small (λ none. none) in
       (fault_bad (parts rules) first.fault, first)
 
   module _ (given : Declared) (same : given ≡ before) {after : Part} where

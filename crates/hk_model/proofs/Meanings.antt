@@ -1,8 +1,8 @@
 -- What a line means where it stands, and that it means one thing.
-use Rattle.std.proofs.Common.{◌≡◌, ℕ, ◌⊎◌, inl, inr, List, [], ◌∷◌, Option, None, Some, IsSome, is_some, Contains, refl, ap, subst}
+use Rattle.std.proofs.Common.{◌≡◌, ℕ, List, [], ◌∷◌, Option, None, Some, IsSome, is_some, Contains, refl, ap, subst}
 use Rattle.std.proofs.Math.Decide.{map_dec}
 use Rattle.hk_parse.specs.BlockLines.{Part, MayStand as MayStandIn}
-use Rattle.hk_parse.specs.LineTexts.{ParamText, LineText, Begin, Property, Test, Step, End, SaysLine}
+use Rattle.hk_parse.specs.LineTexts.{ParamText, LineText, Begin, End, SaysLine}
 use Rattle.hk_model.specs.LineFaults.{SayNothingOutside, SayNothingAfter}
 use Rattle.hk_model.specs.Models.{Declared}
 use Rattle.hk_lines.specs.Later.{later_words}
@@ -11,7 +11,7 @@ use Rattle.hk_lines.specs.Statements.{Statement, Says}
 use Rattle.hk_draft.specs.Declares.{MayStand}
 use Rattle.hk_parse.proofs.LineReadings.{says_inside_one, opening_one}
 use Rattle.hk_parse.proofs.LineDecisions.{dec_inside, dec_opening}
-use Rattle.hk_text.proofs.Deciding.{dec_both, dec_either, dec_true}
+use Rattle.hk_text.proofs.Deciding.{dec_both, dec_true}
 use Rattle.hk_lines.proofs.FirstWords.{statement_no_post, nothing_no_post, later_says_nothing, later_no_post}
 use Rattle.hk_model.proofs.FirstWords.{statement_no_opening, post_no_opening, nothing_no_opening, later_no_opening}
 use Rattle.hk_lines.proofs.Grammar.{says_one, says_nothing}
@@ -71,11 +71,8 @@ nothing_means (means_opening out some says) = nothing_no_opening says
 nothing_means (means_inside {text = text} is says stands) = by text says
   where
     by : (text : LineText) → SaysLine [] text → ⊥
-    by (Begin name params) says = apart_none refl says.texts_are
-    by (Property side name kind init) says = apart_none refl says.texts_are
-    by (Test test) says = apart_none refl says.texts_are
-    by (Step name step) says = apart_none refl says.texts_are
     by End says = apart_none refl says.texts_are
+    by text says = apart_none refl says.texts_are
 
 -- what it is that texts say nothing, outside of a specification and in one
 pub nothing_outside : (before : Declared) (texts : List (List ℕ)) → before.block ≡ None → SayNothingAfter before texts → SayNothingOutside before.problem texts
@@ -115,37 +112,34 @@ later_means_nothing out later (means_inside is says stands) = outside_inside out
 pub dec_means : (before : Declared) (texts : List (List ℕ)) → Dec ((m : Meaning) × Means before texts m)
 dec_means before texts = by before.block refl
   where
-    stated : before.block ≡ None → Dec ((s : Statement) × Says texts s) → Dec ((s : Statement) × Says texts s × MayStand before.problem s)
-    stated out (no none) = no (λ some. none (some.0, some.1))
-    stated out (yes (s, says)) = map_dec
+    stated : Dec ((s : Statement) × Says texts s) → Dec ((s : Statement) × Says texts s × MayStand before.problem s)
+    stated (no none) = no (λ some. none (some.0, some.1))
+    stated (yes (s, says)) = map_dec
         (λ stands. (s, says, stands))
         (λ some. subst (MayStand before.problem) (says_one some.1 says) some.2)
         (dec_may_stand before.problem s)
 
-    outside_texts : Type 0
-    outside_texts = ((s : Statement) × Says texts s × MayStand before.problem s) ⊎ ((IsSome before.problem × ((p : Post) × SaysPost texts p)) ⊎ (IsSome before.problem × ((name : List ℕ) × (params : List ParamText) × SaysLine texts (Begin name params))))
+    outside : before.block ≡ None → Dec ((s : Statement) × Says texts s × MayStand before.problem s) → Dec (IsSome before.problem × ((p : Post) × SaysPost texts p))
+        → Dec (IsSome before.problem × ((name : List ℕ) × (params : List ParamText) × SaysLine texts (Begin name params))) → Dec ((m : Meaning) × Means before texts m)
+    outside out (yes (s, says, stands)) posted opened = yes (Stating s, means_statement out says stands)
+    outside out (no unsaid) (yes (some, (p, says))) opened = yes (Posting p, means_post out some says)
+    outside out (no unsaid) (no unposted) (yes (some, (name, params, says))) = yes (Opening name params, means_opening out some says)
+    outside out (no unsaid) (no unposted) (no unopened) = no (λ some. none some.1)
+      where
+        none : {m : Meaning} → Means before texts m → ⊥
+        none (means_statement {statement = s} out' says stands) = unsaid (s, says, stands)
+        none (means_post {post = p} out' some says) = unposted (some, (p, says))
+        none (means_opening {name = name} {params = params} out' some says) = unopened (some, (name, params, says))
+        none (means_inside is says stands) = outside_inside out is
 
-    there : before.block ≡ None → outside_texts → (m : Meaning) × Means before texts m
-    there out (inl (s, says, stands)) = (Stating s, means_statement out says stands)
-    there out (inr (inl (some, (p, says)))) = (Posting p, means_post out some says)
-    there out (inr (inr (some, (name, params, says)))) = (Opening name params, means_opening out some says)
-
-    back : (m : Meaning) → before.block ≡ None → Means before texts m → outside_texts
-    back m out (means_statement {statement = s} out' says stands) = inl (s, says, stands)
-    back m out (means_post {post = p} out' some says) = inr (inl (some, (p, says)))
-    back m out (means_opening {name = name} {params = params} out' some says) = inr (inr (some, (name, params, says)))
-    back m out (means_inside is says stands) = absurd (outside_inside out is)
-
-    block_of : (m : Meaning) (part : Part) → before.block ≡ Some part → Means before texts m → (text : LineText) × SaysLine texts text × MayStandIn part text
-    block_of m part is (means_statement out says stands) = absurd (outside_inside out is)
-    block_of m part is (means_post out some says) = absurd (outside_inside out is)
-    block_of m part is (means_opening out some says) = absurd (outside_inside out is)
-    block_of m part is (means_inside {part = other} {text = text} is' says stands) =
+    inside : (part : Part) → before.block ≡ Some part → {m : Meaning} → Means before texts m → (text : LineText) × SaysLine texts text × MayStandIn part text
+    inside part is (means_statement out says stands) = absurd (outside_inside out is)
+    inside part is (means_post out some says) = absurd (outside_inside out is)
+    inside part is (means_opening out some says) = absurd (outside_inside out is)
+    inside part is (means_inside {part = other} {text = text} is' says stands) =
         let same : other ≡ part = cc in
         (text, says, subst (λ p. MayStandIn p text) same stands)
 
     by : (block : Option Part) → before.block ≡ block → Dec ((m : Meaning) × Means before texts m)
-    by None out = map_dec (there out) (λ some. back some.0 out some.1) (dec_either
-        (stated out (dec_says texts))
-        (dec_either (dec_both (dec_true (is_some before.problem)) (dec_post texts)) (dec_both (dec_true (is_some before.problem)) (dec_opening texts))))
-    by (Some part) is = map_dec (λ some. (Inside part some.0, means_inside is some.1 some.2)) (λ some. block_of some.0 part is some.1) (dec_inside part texts)
+    by None out = outside out (stated (dec_says texts)) (dec_both (dec_true (is_some before.problem)) (dec_post texts)) (dec_both (dec_true (is_some before.problem)) (dec_opening texts))
+    by (Some part) is = map_dec (λ some. (Inside part some.0, means_inside is some.1 some.2)) (λ some. inside part is some.1) (dec_inside part texts)

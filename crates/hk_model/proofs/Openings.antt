@@ -1,6 +1,6 @@
 -- A line that begins with `spec`, outside of a specification: it opens one, or has a first fault.
 use Rattle.hk_text.specs.Tokens.{HasTexts}
-use Rattle.std.proofs.Common.{◌≡◌, ◌↔◌, ℕ, ◌<◌, ◌≤◌, ◌⊎◌, inl, inr, Bool, true, false, IsTrue, List, ◌∷◌, length, Option, None, Some, IsSome, refl, sym, ◌∙◌, true≢false}
+use Rattle.std.proofs.Common.{◌≡◌, ◌↔◌, ℕ, ◌<◌, ◌≤◌, ◌⊎◌, inl, inr, Bool, true, false, IsTrue, List, ◌∷◌, length, None, Some, IsSome, refl, sym, ◌∙◌, true≢false}
 use Rattle.std.specs.Prelude.{codes}
 use Rattle.hk_text.specs.Lexemes.{IsWord}
 use Rattle.hk_parse.specs.declared.faults.BlockFault.{BlockFault}
@@ -16,24 +16,14 @@ use Rattle.hk_draft.specs.declared.kinds.RefusalKind.TheVariants.{Syntax, Name, 
 use Rattle.hk_model.specs.inside.Faults.{IsLineFault, as_begin_fault}
 use Rattle.hk_model.specs.Models.{Declared, IsGoodLine, good_opening, IsLaterLine}
 use Rattle.hk_model.specs.Postings.{spec_of}
-use Rattle.hk_lines.specs.Statements.{Statement, Says, says_header, says_variable, says_distinct, says_among, says_sequence, says_gcc, says_total, says_objective}
+use Rattle.hk_draft.proofs.Effects.{none_since}
+use Rattle.hk_model.proofs.FirstWords.{statement_apart}
 use Rattle.hk_model.proofs.FaultRanks.{first_syntax, first_name, first_limit, none_open, fault_bad}
 use Rattle.hk_lines.proofs.FirstWords.{later_apart}
 use Rattle.hk_text.proofs.Reading.{same_texts}
 use Rattle.hk_text.proofs.TokenTexts.{apart, apart_none}
 use Rattle.hk_model.proofs.Meanings.{Meaning, Means, means_statement, means_post, means_opening, means_inside, outside_inside, none_say_nothing}
-use Rattle.hk_model.proofs.MeantEffects.{started_problem}
-
--- texts that begin with `spec` say no statement
-spec_no_statement : {texts rest : List (List ℕ)} {s : Statement} → texts ≡ codes "spec" ∷ rest → Says texts s → ⊥
-spec_no_statement is (says_header x) = apart 0 is x refl
-spec_no_statement is (says_variable x word set) = apart 0 is x refl
-spec_no_statement is (says_distinct x words) = apart 0 is x refl
-spec_no_statement is (says_among x counting) = apart 0 is x refl
-spec_no_statement is (says_sequence x number counting) = apart 0 is x refl
-spec_no_statement is (says_gcc x scope rows) = apart 0 is x refl
-spec_no_statement is (says_total x terms bounds) = apart 0 is x refl
-spec_no_statement is (says_objective x terms) = apart 0 is x refl
+use Rattle.hk_model.proofs.MeantEffects.{some_value}
 
 -- the name on a first line is taken where it is that of a specification
 abbrev pub TellsTaken : List Specification → List (List ℕ) → Bool → Type 0
@@ -43,11 +33,6 @@ TellsTaken specs texts taken = (first name : List ℕ) (rest : List (List ℕ)) 
 taken_name : (specs : List Specification) {texts : List (List ℕ)} {taken : Bool} {name : List ℕ} {params : List ParamText} → TellsTaken specs texts taken → SaysLine texts (Begin name params) → IsTrue taken ↔ IsSome (spec_of specs name)
 taken_name specs {name = name} {params = params} tells says = tells (codes "spec") name (in_parentheses (param_texts params)) says.texts_are says.written.0
 
--- an option that is not some is none
-none_since : {A : Type 0} (o : Option A) → (IsSome o → ⊥) → o ≡ None
-none_since None none = refl
-none_since (Some x) none = absurd (none refl)
-
 module _ (before : Declared) {line : List ℕ} {texts rest : List (List ℕ)} (has : HasTexts line texts) (begins : texts ≡ codes "spec" ∷ rest) (out : before.block ≡ None) where
   -- such a line is not Later
   spec_not_later : IsLaterLine before line → ⊥
@@ -55,7 +40,7 @@ module _ (before : Declared) {line : List ℕ} {texts rest : List (List ℕ)} (h
 
   -- where it doesn't open a specification, it means nothing
   no_opening : ((name : List ℕ) (params : List ParamText) → IsSome before.problem → SaysLine texts (Begin name params) → ⊥) → {m : Meaning} → Means before texts m → ⊥
-  no_opening none (means_statement out' says stands) = spec_no_statement begins says
+  no_opening none (means_statement out' says stands) = statement_apart says begins refl
   no_opening none (means_post out' some says) = apart 0 begins says.parts refl
   no_opening none (means_opening {name = name} {params = params} out' some says) = none name params some says
   no_opening none (means_inside is says stands) = outside_inside out is
@@ -70,7 +55,7 @@ module _ (before : Declared) {line : List ℕ} {texts rest : List (List ℕ)} (h
     -- a first line with a taken name
     opening_name : {name : List ℕ} {params : List ParamText} → SaysLine texts (Begin name params) → IsSome (spec_of before.specs name) ⊎ BeginNameFault params → IsLineFault before line (Bad Name)
     opening_name says fault =
-        let first = first_name has (started_problem before.problem started).1 (means_opening out started says) fault in
+        let first = first_name has (some_value before.problem started).1 (means_opening out started says) fault in
         (fault_bad (none_open before out) first.fault, first)
 
     -- no name is taken
@@ -81,7 +66,7 @@ module _ (before : Declared) {line : List ℕ} {texts rest : List (List ℕ)} (h
     -- a first line that passes a limit, without a taken name
     opening_limit : {name : List ℕ} {params : List ParamText} → SaysLine texts (Begin name params) → taken ≡ false → (BeginNameFault params → ⊥) → (most_specifications ≤ length before.specs) ⊎ BeginLimitFault name params → IsLineFault before line (Bad Limit)
     opening_limit says free named fault =
-        let first = first_limit has (started_problem before.problem started).1 (means_opening out started says) fault (no_name says free named) in
+        let first = first_limit has (some_value before.problem started).1 (means_opening out started says) fault (no_name says free named) in
         (fault_bad (none_open before out) first.fault, first)
 
     -- what is good but for its name, which is another specification's
@@ -94,7 +79,7 @@ module _ (before : Declared) {line : List ℕ} {texts rest : List (List ℕ)} (h
 
     -- what is good
     pub begun_opens : {part : Part} → BeginsWith texts part → taken ≡ false → length before.specs < most_specifications → IsGoodLine before line (record before { block = Some part })
-    begun_opens begun free room = good_opening has out begun.says (started_problem before.problem started).1 (record {
+    begun_opens begun free room = good_opening has out begun.says (some_value before.problem started).1 (record {
       new = none_since (spec_of before.specs begun.name) (λ some. no_name begun.says free begun.begins.free (inl some));
       room = room;
       begins = begun.begins;

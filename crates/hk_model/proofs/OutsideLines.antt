@@ -10,7 +10,7 @@ use Rattle.hk_lines.specs.declared.posts.PostShape.{PostShape}
 use Rattle.hk_draft.specs.declared.kinds.RefusalKind.{RefusalKind}
 use Rattle.hk_lines.specs.declared.shapes.Shape.{Shape}
 use Rattle.hk_lines.specs.Plain.{statement_of}
-use Rattle.hk_draft.specs.declared.kinds.RefusalKind.TheVariants.{Text, Later, Syntax, Name, Limit, Scope, Grade, Unfinished}
+use Rattle.hk_draft.specs.declared.kinds.RefusalKind.TheVariants.{Syntax, Name, Limit, Scope}
 use Rattle.hk_model.specs.inside.Faults.{IsLineFault, Posts, IsPostFaultAfter}
 use Rattle.hk_model.specs.LineFaults.{IsFirstFault}
 use Rattle.hk_model.specs.Models.{Declared, IsGoodLine, good_post, IsLaterLine}
@@ -20,7 +20,7 @@ use Rattle.hk_lines.specs.PostShapes.{plain_post, IsPostShapeOf}
 use Rattle.hk_model.specs.inside.PostFaults.{IsFaultyPost, IsPostFault}
 use Rattle.hk_group.specs.Problems.{PlainProblem}
 use Rattle.hk_lines.specs.Shapes.{IsShapeOf, SayNothing}
-use Rattle.hk_lines.specs.Statements.{Statement, Says, says_header, says_variable, says_distinct, says_among, says_sequence, says_gcc, says_total, says_objective}
+use Rattle.hk_model.proofs.FirstWords.{statement_apart}
 use Rattle.hk_draft.specs.Declares.{Declares}
 use Rattle.hk_model.proofs.CappedPosts.{post_fault_whole, adds_post_whole}
 use Rattle.hk_model.proofs.FaultRanks.{first_syntax, first_name, first_limit, first_scope, none_open, fault_bad}
@@ -49,17 +49,6 @@ pub effect_after : (before : Declared) {line : List ℕ} {texts : List (List ℕ
     → Declares before.problem (statement_of shape) after.problem × (after ≡ record before { problem = after.problem }) → IsGoodLine before line after
 effect_after before {line = line} has out shape shaped after (declares, same) = subst (IsGoodLine before line) (sym same) (effect_of_statement has shape shaped before out after.problem declares)
 
--- texts that begin with `post` say no statement
-post_no_statement : {rest : List (List ℕ)} {s : Statement} → Says (codes "post" ∷ rest) s → ⊥
-post_no_statement (says_header x) = apart 0 refl x refl
-post_no_statement (says_variable x word set) = apart 0 refl x refl
-post_no_statement (says_distinct x words) = apart 0 refl x refl
-post_no_statement (says_among x counting) = apart 0 refl x refl
-post_no_statement (says_sequence x number counting) = apart 0 refl x refl
-post_no_statement (says_gcc x scope rows) = apart 0 refl x refl
-post_no_statement (says_total x terms bounds) = apart 0 refl x refl
-post_no_statement (says_objective x terms) = apart 0 refl x refl
-
 module _ (before : Declared) {line : List ℕ} {rest : List (List ℕ)} (has : HasTexts line (codes "post" ∷ rest)) (out : before.block ≡ None) where
   -- a line that begins with `post` is not Later
   post_not_later : IsLaterLine before line → ⊥
@@ -67,7 +56,7 @@ module _ (before : Declared) {line : List ℕ} {rest : List (List ℕ)} (has : H
 
   -- where it says no post, it means nothing
   no_post_meant : ((post : Post) → IsSome before.problem → SaysPost (codes "post" ∷ rest) post → ⊥) → {m : Meaning} → Means before (codes "post" ∷ rest) m → ⊥
-  no_post_meant none (means_statement out' says stands) = post_no_statement says
+  no_post_meant none (means_statement out' says stands) = statement_apart says refl refl
   no_post_meant none (means_post {post = p} out' some says) = none p some says
   no_post_meant none (means_opening out' some says) = apart 0 refl says.texts_are refl
   no_post_meant none (means_inside is says stands) = outside_inside out is
@@ -81,14 +70,10 @@ module _ (before : Declared) {line : List ℕ} {rest : List (List ℕ)} (has : H
   module _ {problem : PlainProblem} (started : before.problem ≡ Some problem) where
     -- the first fault of a post is that of the line that says it
     post_fault : {post : Post} → SaysPost (codes "post" ∷ rest) post → (kind : RefusalKind) → IsFaultyPost before.specs problem post kind → IsFirstFault before line kind
-    post_fault says Text fault = absurd fault
-    post_fault says Later fault = absurd fault
-    post_fault says Syntax fault = absurd fault
     post_fault says Name fault = first_name has started (means_post out (ap is_some started) says) fault
     post_fault says Limit (fault, no_name) = first_limit has started (means_post out (ap is_some started) says) fault no_name
     post_fault says Scope (fault, no_name, no_limit) = first_scope has started (means_post out (ap is_some started) says) fault no_name no_limit
-    post_fault says Grade fault = absurd fault
-    post_fault says Unfinished fault = absurd fault
+    post_fault says kind fault = absurd fault
 
   module _ (shape : PostShape) (shaped : IsPostShapeOf (codes "post" ∷ rest) shape) where
     -- where the reader stops at a post after the header, it stops at the line

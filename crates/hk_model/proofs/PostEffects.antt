@@ -1,9 +1,8 @@
 -- A post without a fault has an effect, one with a fault has none, and the effect is determined.
-use Rattle.std.proofs.Common.{◌≡◌, ℕ, ◌<◌, ◌≤◌, ◌⊎◌, inl, inr, ⊎_elim, List, [], ◌∷◌, ◌++◌, length, Option, None, Some, refl, sym, ap, subst, ◌∙◌, arith}
+use Rattle.std.proofs.Common.{◌≡◌, ℕ, ◌<◌, ◌≤◌, ◌⊎◌, inl, inr, List, [], ◌∷◌, ◌++◌, length, Option, None, Some, refl, sym, ap, subst, ◌∙◌}
 use Rattle.std.specs.Prelude.{All, Any}
 use Rattle.std.specs.List.Sorted.{IsStrictlyIncreasing}
 use Rattle.std.proofs.Math.Decide.{map_dec, dec_le, dec_lt}
-use Rattle.std.proofs.lemmas.Bool.{cases_lt}
 use Rattle.std.proofs.lemmas.Bool.Decides.{Decides-eqb}
 use Rattle.std.proofs.lemmas.List.Elements.{All-head, All-tail}
 use Rattle.hk_spec.specs.declared.arguments.Arg.{Arg}
@@ -23,29 +22,24 @@ use Rattle.hk_draft.specs.Declares.{place_of}
 use Rattle.hk_text.proofs.Deciding.{dec_both, dec_either, dec_not, dec_all, dec_rising, dec_test, dec_any}
 use Rattle.hk_lines.proofs.Domains.{domain_of, same_domains}
 use Rattle.hk_draft.proofs.CountDecisions.{since}
-use Rattle.hk_draft.proofs.Effects.{dec_coefficient, dec_within_limit, places_of, no_places_of}
-use Rattle.hk_lines.proofs.Elements.{each_not_some, each_from_none}
+use Rattle.hk_draft.proofs.Effects.{dec_coefficient, dec_within_limit, places_of, lt_since}
+use Rattle.hk_lines.proofs.Elements.{each_from_none}
 use Rattle.hk_draft.proofs.OneEffect.{same_places, same_scopes, same_added_constraint}
 use Rattle.hk_draft.proofs.StatementFaults.{dec_undeclared, dec_scope_fault}
+use Rattle.hk_model.proofs.PostFaults.{same_found, all_named, named_post, large_post, small_post}
 
 -- whether an argument has the form that a kind asks
 dec_fits_kind : (kind : ParamKind) (arg : ArgText) → Dec (FitsKind kind arg)
 dec_fits_kind param.Num (Number value) = yes tt
-dec_fits_kind param.Num (Set set) = no (λ none. none)
-dec_fits_kind param.Num (Numbers numbers) = no (λ none. none)
-dec_fits_kind param.Set (Number value) = no (λ none. none)
 dec_fits_kind param.Set (Set set) = yes tt
-dec_fits_kind param.Set (Numbers numbers) = no (λ none. none)
-dec_fits_kind param.List (Number value) = no (λ none. none)
-dec_fits_kind param.List (Set set) = no (λ none. none)
 dec_fits_kind param.List (Numbers numbers) = yes tt
+dec_fits_kind kind arg = no (λ none. none)
 
 -- whether arguments are as the kinds ask
 pub dec_fit_kinds : (kinds : List ParamKind) (args : List ArgText) → Dec (FitKinds kinds args)
 dec_fit_kinds [] [] = yes tt
-dec_fit_kinds [] (arg ∷ args) = no (λ none. none)
-dec_fit_kinds (kind ∷ kinds) [] = no (λ none. none)
 dec_fit_kinds (kind ∷ kinds) (arg ∷ args) = dec_both (dec_fits_kind kind arg) (dec_fit_kinds kinds args)
+dec_fit_kinds kinds args = no (λ none. none)
 
 -- whether an argument is within its limits
 pub dec_small_arg : (count : ℕ) (arg : ArgText) → Dec (IsSmallArg count arg)
@@ -71,33 +65,22 @@ args_of count (text ∷ texts) small =
 -- an argument is one, and so are arguments
 same_arg : (text : ArgText) (a b : Arg) → IsArgOf text a → IsArgOf text b → a ≡ b
 same_arg (Number value) (argument.Num m) (argument.Num n) x y = ap argument.Num (x ∙ sym y)
-same_arg (Number value) (argument.Num m) (argument.Set bits) x y = absurd y
-same_arg (Number value) (argument.Num m) (argument.Nums ns) x y = absurd y
-same_arg (Number value) (argument.Set bits) b x y = absurd x
-same_arg (Number value) (argument.Nums ns) b x y = absurd x
+same_arg (Number value) (argument.Num m) b x y = absurd y
 same_arg (Set set) (argument.Set bits) (argument.Set other) x y = ap argument.Set (same_domains x y)
-same_arg (Set set) (argument.Set bits) (argument.Num n) x y = absurd y
-same_arg (Set set) (argument.Set bits) (argument.Nums ns) x y = absurd y
-same_arg (Set set) (argument.Num n) b x y = absurd x
-same_arg (Set set) (argument.Nums ns) b x y = absurd x
+same_arg (Set set) (argument.Set bits) b x y = absurd y
 same_arg (Numbers numbers) (argument.Nums ms) (argument.Nums ns) x y = ap argument.Nums (x ∙ sym y)
-same_arg (Numbers numbers) (argument.Nums ms) (argument.Num n) x y = absurd y
-same_arg (Numbers numbers) (argument.Nums ms) (argument.Set bits) x y = absurd y
-same_arg (Numbers numbers) (argument.Num n) b x y = absurd x
-same_arg (Numbers numbers) (argument.Set bits) b x y = absurd x
+same_arg (Numbers numbers) (argument.Nums ms) b x y = absurd y
+same_arg text a b x y = absurd x
 
-pub same_args : (texts : List ArgText) (a b : List Arg) → AreArgsOf texts a → AreArgsOf texts b → a ≡ b
+same_args : (texts : List ArgText) (a b : List Arg) → AreArgsOf texts a → AreArgsOf texts b → a ≡ b
 same_args [] [] [] x y = refl
-same_args [] [] (b ∷ bs) x y = absurd y
-same_args [] (a ∷ as_) bs x y = absurd x
-same_args (text ∷ texts) [] bs x y = absurd x
-same_args (text ∷ texts) (a ∷ as_) [] x y = absurd y
 same_args (text ∷ texts) (a ∷ as_) (b ∷ bs) x y =
-    ap (λ first. first ∷ as_) (same_arg text a b x.0 y.0) ∙ ap (λ rest. b ∷ rest) (same_args texts as_ bs x.1 y.1)
-
--- one specification is found
-same_found : {found : Option Specification} {s t : Specification} → found ≡ Some s → found ≡ Some t → s ≡ t
-same_found x y = cc
+    let first = same_arg text a b x.0 y.0 in
+    let rest = same_args texts as_ bs x.1 y.1 in
+    λ i. first i ∷ rest i
+same_args [] [] bs x y = absurd y
+same_args (text ∷ texts) (a ∷ as_) bs x y = absurd y
+same_args texts as_ bs x y = absurd x
 
 -- a post has one effect
 pub post_effect_one : {specs : List Specification} {post : Post} {before after other : PlainProblem} → AddsPost specs post before after → AddsPost specs post before other → after ≡ other
@@ -110,54 +93,43 @@ post_effect_one {post = post} x y =
     same_added_constraint posted x.adds y.adds
 
 -- the specification of a post without a fault of a name, whose kinds the arguments fit
-record Found (specs : List Specification) (post : Post) : Type 0 where
-  spec : Specification
-  declared : spec_of specs post.spec ≡ Some spec
-  fit : FitKinds (param_kinds spec) post.args
-
-found_spec : (specs : List Specification) (before : PlainProblem) (post : Post) → (PostNameFault specs before post → ⊥) → Found specs post
+found_spec : (specs : List Specification) (before : PlainProblem) (post : Post) → (PostNameFault specs before post → ⊥) → (spec : Specification) × (spec_of specs post.spec ≡ Some spec) × FitKinds (param_kinds spec) post.args
 found_spec specs before post named = by (spec_of specs post.spec) refl
   where
-    by : (found : Option Specification) → spec_of specs post.spec ≡ found → Found specs post
+    by : (found : Option Specification) → spec_of specs post.spec ≡ found → (spec : Specification) × (spec_of specs post.spec ≡ Some spec) × FitKinds (param_kinds spec) post.args
     by None is = absurd (named (no_spec is))
-    by (Some spec) is = record { spec = spec; declared = is; fit = since (dec_fit_kinds (param_kinds spec) post.args) (λ other. named (other_args is other)) }
+    by (Some spec) is = (spec, is, since (dec_fit_kinds (param_kinds spec) post.args) (λ other. named (other_args is other)))
 
 -- a post without a fault has an effect
 pub post_effect : (specs : List Specification) (before : PlainProblem) (post : Post) → (PostNameFault specs before post → ⊥) → (PostLimitFault before post → ⊥) → (PostScopeFault before post → ⊥)
     → (after : PlainProblem) × AddsPost specs post before after
 post_effect specs before post named fits ordered =
-    let spec = found_spec specs before post named in
+    let (spec, declared, fit) = found_spec specs before post named in
     let small = each_from_none (IsSmallArg (length post.names)) (λ arg. IsSmallArg (length post.names) arg → ⊥) (λ arg. since (dec_small_arg (length post.names) arg)) post.args (λ large. fits (large_arg large)) in
     let args = args_of (length post.names) post.args small in
     let scope = places_of before.names post.names (λ none. named (no_variable none)) in
     let rising = since (dec_rising scope.0) (λ falls. ordered (record { scope = scope.0; places = scope.1; falls = falls })) in
-    let posted : Constraint = User (record { spec = spec.spec; args = args.0; len = length scope.0 }) scope.0 in (
+    let posted : Constraint = User (record { spec = spec; args = args.0; len = length scope.0 }) scope.0 in (
       record before { constraints = before.constraints ++ posted ∷ [] },
       record {
-        spec = spec.spec;
-        declared = spec.declared;
-        fit = spec.fit;
+        spec = spec;
+        declared = declared;
+        fit = fit;
         small = small;
         args = args.0;
         args_are = args.1;
         scope = scope.0;
         names_are = record { declared = scope.1; rising = rising };
-        adds = record { room = since (dec_lt (length before.constraints) most_constraints) (λ many. fits (many_posts (le_since many))); added = refl };
+        adds = record { room = lt_since (length before.constraints) most_constraints (λ many. fits (many_posts many)); added = refl };
       },
     )
-  where
-    le_since : (length before.constraints < most_constraints → ⊥) → most_constraints ≤ length before.constraints
-    le_since many = ⊎_elim (λ less. absurd (many less)) (λ le. le) (cases_lt (length before.constraints) most_constraints)
 
 -- a post with a fault has no effect
 pub named_no_post : {specs : List Specification} {post : Post} {before after : PlainProblem} → PostNameFault specs before post → AddsPost specs post before after → ⊥
-named_no_post (no_spec none) adds = let declared = adds.declared in cc
-named_no_post {post = post} (other_args is other) adds = other (subst (λ s. FitKinds (param_kinds s) post.args) (same_found adds.declared is) adds.fit)
-named_no_post {post = post} {before = before} (no_variable none) adds = no_places_of before.names post.names none adds.scope adds.names_are.declared
+named_no_post {specs = specs} {post = post} {before = before} fault adds = named_post specs before post adds.spec adds.declared adds.fit adds.scope adds.names_are.declared fault
 
 pub limited_no_post : {specs : List Specification} {post : Post} {before after : PlainProblem} → PostLimitFault before post → AddsPost specs post before after → ⊥
-limited_no_post (many_posts many) adds = let room = adds.adds.room in omega (arith, many, room)
-limited_no_post {post = post} (large_arg large) adds = each_not_some (IsSmallArg (length post.names)) (λ arg. IsSmallArg (length post.names) arg → ⊥) (λ arg small none. none small) post.args adds.small large
+limited_no_post {post = post} {before = before} fault adds = small_post before post adds.adds.room adds.small fault
 
 pub unordered_no_post : {specs : List Specification} {post : Post} {before after : PlainProblem} → PostScopeFault before post → AddsPost specs post before after → ⊥
 unordered_no_post fault adds = fault.falls (subst IsStrictlyIncreasing (same_places adds.scope fault.scope (sym adds.names_are.declared ∙ fault.places)) adds.names_are.rising)
@@ -168,12 +140,7 @@ dec_post_name specs before post = by (spec_of specs post.spec) refl (dec_undecla
   where
     with_spec : (spec : Specification) → spec_of specs post.spec ≡ Some spec → (Any (λ name. place_of before.names name ≡ None) post.names → ⊥) → Dec (FitKinds (param_kinds spec) post.args) → Dec (PostNameFault specs before post)
     with_spec spec is all (no other) = yes (other_args is other)
-    with_spec spec is all (yes fit) = no none
-      where
-        none : PostNameFault specs before post → ⊥
-        none (no_spec missing) = cc
-        none (other_args is' other) = other (subst (λ s. FitKinds (param_kinds s) post.args) (same_found is is') fit)
-        none (no_variable some) = all some
+    with_spec spec is all (yes fit) = no (all_named specs before post spec is fit all)
 
     by : (found : Option Specification) → spec_of specs post.spec ≡ found → Dec (Any (λ name. place_of before.names name ≡ None) post.names) → Dec (PostNameFault specs before post)
     by None is declared = yes (no_spec is)
@@ -181,23 +148,16 @@ dec_post_name specs before post = by (spec_of specs post.spec) refl (dec_undecla
     by (Some spec) is (no all) = with_spec spec is all (dec_fit_kinds (param_kinds spec) post.args)
 
 pub dec_post_limit : (before : PlainProblem) (post : Post) → Dec (PostLimitFault before post)
-dec_post_limit before post = map_dec there back (dec_either
+dec_post_limit before post = map_dec (large_post before post) back (dec_either
     (dec_le most_constraints (length before.constraints))
     (dec_any (λ arg. IsSmallArg (length post.names) arg → ⊥) (λ arg. dec_not (dec_small_arg (length post.names) arg)) post.args))
   where
-    there : (most_constraints ≤ length before.constraints) ⊎ Any (λ arg. IsSmallArg (length post.names) arg → ⊥) post.args → PostLimitFault before post
-    there (inl many) = many_posts many
-    there (inr large) = large_arg large
-
     back : PostLimitFault before post → (most_constraints ≤ length before.constraints) ⊎ Any (λ arg. IsSmallArg (length post.names) arg → ⊥) post.args
     back (many_posts many) = inl many
     back (large_arg large) = inr large
 
 pub dec_post_scope : (before : PlainProblem) (post : Post) → Dec (PostScopeFault before post)
-dec_post_scope before post = map_dec there back (dec_scope_fault before (Distinct post.names))
-  where
-    there : IsScopeFault before (Distinct post.names) → PostScopeFault before post
-    there fault = record { scope = fault.scope; places = fault.places; falls = fault.falls }
-
-    back : PostScopeFault before post → IsScopeFault before (Distinct post.names)
-    back fault = record { scope = fault.scope; places = fault.places; falls = fault.falls }
+dec_post_scope before post = map_dec
+    (λ (fault : IsScopeFault before (Distinct post.names)). record { scope = fault.scope; places = fault.places; falls = fault.falls })
+    (λ fault. record { scope = fault.scope; places = fault.places; falls = fault.falls })
+    (dec_scope_fault before (Distinct post.names))

@@ -32,15 +32,19 @@ unfit_post specs before post none = by (spec_of specs post.spec) refl
     by (Some spec) is = other_args is (none spec is)
 
 -- one specification is found
-one_found : {found : Option Specification} {s t : Specification} → found ≡ Some s → found ≡ Some t → s ≡ t
-one_found x y = cc
+pub same_found : {found : Option Specification} {s t : Specification} → found ≡ Some s → found ≡ Some t → s ≡ t
+same_found x y = cc
 
--- where the arguments fit and the names have places, there is no fault of a name
-pub named_post : (specs : List Specification) (before : PlainProblem) (post : Post) (spec : Specification) (scope : List ℕ) → spec_of specs post.spec ≡ Some spec → FitKinds (param_kinds spec) post.args
-    → map (place_of before.names) post.names ≡ map Some scope → PostNameFault specs before post → ⊥
-named_post specs before post spec scope declared fit places (no_spec none) = cc
-named_post specs before post spec scope declared fit places (other_args is other) = other (subst (λ s. FitKinds (param_kinds s) post.args) (one_found declared is) fit)
-named_post specs before post spec scope declared fit places (no_variable none) = no_places_of before.names post.names none scope places
+module _ (specs : List Specification) (before : PlainProblem) (post : Post) (spec : Specification) (declared : spec_of specs post.spec ≡ Some spec) (fit : FitKinds (param_kinds spec) post.args) where
+  -- where the arguments fit and each name is declared, there is no fault of a name
+  pub all_named : (Any (λ name. place_of before.names name ≡ None) post.names → ⊥) → PostNameFault specs before post → ⊥
+  all_named all (no_spec none) = cc
+  all_named all (other_args is other) = other (subst (λ s. FitKinds (param_kinds s) post.args) (same_found declared is) fit)
+  all_named all (no_variable none) = all none
+
+  -- so there is none where the names have places
+  pub named_post : (scope : List ℕ) → map (place_of before.names) post.names ≡ map Some scope → PostNameFault specs before post → ⊥
+  named_post scope places = all_named (λ none. no_places_of before.names post.names none scope places)
 
 -- where there is no room or an argument is not small, there is a fault of a limit
 pub large_post : (before : PlainProblem) (post : Post) → (most_constraints ≤ length before.constraints) ⊎ Any (λ arg. IsSmallArg (length post.names) arg → ⊥) post.args → PostLimitFault before post

@@ -15,6 +15,7 @@ use Rattle.hk_text.proofs.Deciding.{dec_not, dec_any}
 use Rattle.hk_lines.proofs.Elements.{each_from_none}
 use Rattle.hk_model.proofs.PostEffects.{dec_small_arg}
 use Rattle.hk_draft.proofs.SmallSets.{AreSmallValues, small_items, items_small}
+use Rattle.hk_draft.proofs.CountDecisions.{since}
 
 module _ {X : Type 0} (p : X → Bool) (xs : List X) (i : ℕ) (x : X) (within : i < length xs) (here : x ≡ slice_index_or xs i x) where
   left_is : drop i xs ≡ x ∷ drop (i + 1) xs
@@ -54,9 +55,8 @@ args_take args i d within = ap args_of (take_more args i d within) ∙ map-appen
 -- arguments and one more, and those that they are
 args_push : (texts : List ArgText) (text : ArgText) (args : List Arg) (arg : Arg) → AreArgsOf texts args → IsArgOf text arg → AreArgsOf (texts ++ text ∷ []) (args ++ arg ∷ [])
 args_push [] text [] arg are is = (is, tt)
-args_push [] text (a ∷ args) arg are is = absurd are
-args_push (t ∷ texts) text [] arg are is = absurd are
 args_push (t ∷ texts) text (a ∷ args) arg are is = (are.0, args_push texts text args arg are.1 is)
+args_push texts text args arg are is = absurd are
 
 -- one argument more is bound
 pub bound_more : (args : List PostArg) (i : ℕ) (d : PostArg) (bound longer : List Arg) (arg : Arg) → i < length args → AreArgsOf (args_of (take i args)) bound → IsArgOf (plain_arg (get_or args i d)) arg → longer ≡ bound ++ arg ∷ [] → AreArgsOf (args_of (take (i + 1) args)) longer
@@ -71,21 +71,11 @@ kinds_of params = map (λ param. param.kind) params
 -- arguments that fit are one for each kind
 pub fit_length : (params : List Param) (args : List PostArg) → FitKinds (kinds_of params) (args_of args) → length params ≡ length args
 fit_length [] [] fit = refl
-fit_length [] (arg ∷ args) fit = absurd fit
-fit_length (param ∷ params) [] fit = absurd fit
 fit_length (param ∷ params) (arg ∷ args) fit = ap suc (fit_length params args fit.1)
+fit_length params args fit = absurd fit
 
 -- where not each argument is small, some argument is not
 pub some_large_arg : (count : ℕ) (texts : List ArgText) → (All (IsSmallArg count) texts → ⊥) → Any (λ text. IsSmallArg count text → ⊥) texts
-some_large_arg count texts some = by (dec_any (λ text. IsSmallArg count text → ⊥) (λ text. dec_not (dec_small_arg count text)) texts)
-  where
-    small : (text : ArgText) → ((IsSmallArg count text → ⊥) → ⊥) → IsSmallArg count text
-    small text none = from (dec_small_arg count text)
-      where
-        from : Dec (IsSmallArg count text) → IsSmallArg count text
-        from (yes is) = is
-        from (no large) = absurd (none large)
-
-    by : Dec (Any (λ text. IsSmallArg count text → ⊥) texts) → Any (λ text. IsSmallArg count text → ⊥) texts
-    by (yes large) = large
-    by (no none) = absurd (some (each_from_none (IsSmallArg count) (λ text. IsSmallArg count text → ⊥) small texts none))
+some_large_arg count texts some = since
+    (dec_any (λ text. IsSmallArg count text → ⊥) (λ text. dec_not (dec_small_arg count text)) texts)
+    (λ none. some (each_from_none (IsSmallArg count) (λ text. IsSmallArg count text → ⊥) (λ text. since (dec_small_arg count text)) texts none))

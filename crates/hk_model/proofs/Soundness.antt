@@ -1,26 +1,24 @@
 -- What a good line declares is sound where what was declared before it is.
-use Rattle.std.proofs.Common.{◌≡◌, ℕ, ◌<◌, Bool, true, false, cond, List, [], ◌∷◌, length, find, Option, None, Some, IsSome, is_some, refl, sym, ap, subst, ◌∙◌, true≢false, arith}
+use Rattle.std.proofs.Common.{◌≡◌, ℕ, ◌<◌, Bool, List, length, find, Option, None, Some, IsSome, is_some, refl, sym, ap, subst, ◌∙◌, true≢false, arith}
 use Rattle.std.specs.Prelude.{All, IfSome}
-use Rattle.std.proofs.lemmas.List.Elements.{All-nil, All-head, All-tail, All-push, All-weaker}
-use Rattle.hk_kinds.specs.Limits.{IsWithinLimit}
+use Rattle.std.proofs.lemmas.List.Elements.{All-nil, All-get_or, All-push}
 use Rattle.hk_parse.specs.BlockLines.{Part, whole_spec}
 use Rattle.hk_parse.specs.Blocks.{IsPart}
-use Rattle.hk_spec.specs.Arguments.{IsCoefficient, IsArgument, is_number, is_set, is_list, AreArguments, no_arguments, more_arguments}
+use Rattle.hk_spec.specs.Arguments.{AreArguments}
 use Rattle.hk_spec.specs.Grades.{IsGraded}
 use Rattle.hk_spec.specs.Specifications.{Specification, IsSpecification, IsWithoutBest, param_kinds}
-use Rattle.hk_spec.specs.declared.arguments.Arg.{Arg}
-use Rattle.hk_spec.specs.declared.arguments.Arg.TheVariants as argument
-use Rattle.hk_spec.specs.declared.parts.ParamKind.{ParamKind}
-use Rattle.hk_spec.specs.declared.parts.ParamKind.TheVariants as param
-use Rattle.hk_group.specs.Limits.{greatest_coefficient}
 use Rattle.hk_model.specs.Models.{Declared, nothing_declared, IsGoodLine, good_empty, good_statement, good_post, good_opening, good_inside, good_end}
-use Rattle.hk_lines.specs.Posts.{ArgText, Number, Set, Numbers, Post, SaysPost}
-use Rattle.hk_model.specs.Postings.{FitsKind, FitKinds, IsSmallArg, IsArgOf, AreArgsOf, AddsPost}
-use Rattle.hk_group.specs.Problems.{PlainProblem, IsWithin, IsScope, IsPosted, IsValid}
+use Rattle.hk_lines.specs.Posts.{Post, SaysPost}
+use Rattle.hk_model.specs.Postings.{AddsPost}
+use Rattle.hk_group.specs.Problems.{PlainProblem, IsScope, IsPosted, IsValid}
 use Rattle.hk_parse.proofs.PartRules.{begins_valid, good_after_valid, whole_valid, whole_no_best}
 use Rattle.hk_model.proofs.GradedLines.{IsGradedPart, begins_graded, whole_graded, good_after_graded}
 use Rattle.hk_group.proofs.SumSizes.{scope_short}
 use Rattle.hk_draft.proofs.Validity.{IsValidSoFar, as_many, named_scope, constraint_valid, statement_valid}
+use Rattle.hk_model.proofs.Bindings.{bound_arguments}
+use Rattle.std.proofs.lemmas.Option.{slice_get_within, get_or_from_slice_get}
+use Rattle.std.proofs.lemmas.List.Folds.{find_at}
+use Rattle.std.specs.List.{position_or_len}
 
 -- a declared specification is valid, its test doesn't use the bound on the cost, and it is graded
 pub record IsDeclared (s : Specification) : Type 0 where
@@ -40,45 +38,11 @@ pub record IsSound (declared : Declared) : Type 0 where
 pub nothing_sound : IsSound nothing_declared
 nothing_sound = record { problem = tt; specs = All-nil IsDeclared; block = tt; graded = tt; started = λ some. absurd (true≢false (sym some)) }
 
--- an argument of the form that a kind asks, within its limits, is one of that kind
-argument_valid : (count : ℕ) (kind : ParamKind) (text : ArgText) (arg : Arg) → FitsKind kind text → IsSmallArg count text → IsArgOf text arg → IsArgument count kind arg
-argument_valid count param.Num (Number value) (argument.Num n) fit small is = is_number (subst IsWithinLimit (sym is) (record { least = small.above; most = small.below }))
-argument_valid count param.Num (Number value) (argument.Set bits) fit small is = absurd is
-argument_valid count param.Num (Number value) (argument.Nums ns) fit small is = absurd is
-argument_valid count param.Num (Set set) arg fit small is = absurd fit
-argument_valid count param.Num (Numbers numbers) arg fit small is = absurd fit
-argument_valid count param.Set (Number value) arg fit small is = absurd fit
-argument_valid count param.Set (Set set) (argument.Num n) fit small is = absurd is
-argument_valid count param.Set (Set set) (argument.Set bits) fit small is = is_set is.small
-argument_valid count param.Set (Set set) (argument.Nums ns) fit small is = absurd is
-argument_valid count param.Set (Numbers numbers) arg fit small is = absurd fit
-argument_valid count param.List (Number value) arg fit small is = absurd fit
-argument_valid count param.List (Set set) arg fit small is = absurd fit
-argument_valid count param.List (Numbers numbers) (argument.Num n) fit small is = absurd is
-argument_valid count param.List (Numbers numbers) (argument.Set bits) fit small is = absurd is
-argument_valid count param.List (Numbers numbers) (argument.Nums ns) fit small is = is_list
-    (ap length is ∙ small.1)
-    (subst (All IsCoefficient) (sym is) (All-weaker (IsWithin greatest_coefficient) IsCoefficient (λ n within. record { least = within.above; most = within.below }) numbers small.0))
-
--- and so are arguments
-arguments_valid : (count : ℕ) (kinds : List ParamKind) (texts : List ArgText) (args : List Arg) → FitKinds kinds texts → All (IsSmallArg count) texts → AreArgsOf texts args → AreArguments count kinds args
-arguments_valid count [] [] [] fit small are = no_arguments
-arguments_valid count [] [] (arg ∷ args) fit small are = absurd are
-arguments_valid count [] (text ∷ texts) args fit small are = absurd fit
-arguments_valid count (kind ∷ kinds) [] args fit small are = absurd fit
-arguments_valid count (kind ∷ kinds) (text ∷ texts) [] fit small are = absurd are
-arguments_valid count (kind ∷ kinds) (text ∷ texts) (arg ∷ args) fit small are = more_arguments
-    (argument_valid count kind text arg fit.0 (All-head (IsSmallArg count) text texts small) are.0)
-    (arguments_valid count kinds texts args fit.1 (All-tail (IsSmallArg count) text texts small) are.1)
-
 -- what each element has, the one that is found has
 found_has : {X : Type 0} (P : X → Type 0) (test : X → Bool) (xs : List X) (x : X) → find test xs ≡ Some x → All P xs → P x
-found_has P test [] x same all = cc
-found_has P test (y ∷ ys) x same all = by (test y) same (λ later. found_has P test ys x later (All-tail P y ys all))
-  where
-    by : (passes : Bool) → cond passes (Some y) (find test ys) ≡ Some x → (find test ys ≡ Some x → P x) → P x
-    by true same later = let first : y ≡ x = cc in subst P first (All-head P y ys all)
-    by false same later = later same
+found_has P test xs x same all =
+    let at = sym (find_at test xs) ∙ same in
+    subst P (get_or_from_slice_get xs (position_or_len test xs) x x at) (All-get_or P xs (position_or_len test xs) x (slice_get_within xs (position_or_len test xs) x at) all)
 
 -- the names of a post are some
 names_some : {texts : List (List ℕ)} {post : Post} → SaysPost texts post → 0 < length post.names
@@ -100,7 +64,7 @@ post_valid {specs = specs} {post = post} {before = before} says adds declared va
         few = (let short = scope_short (length before.names) adds.scope scope in let most = valid.variables in omega (arith, short, most));
         rules = spec.rules;
         arguments = subst (λ count. AreArguments count (param_kinds adds.spec) adds.args) (as_many adds.names_are)
-            (arguments_valid (length post.names) (param_kinds adds.spec) post.args adds.args adds.fit adds.small adds.args_are);
+            (bound_arguments (length post.names) (param_kinds adds.spec) post.args adds.args adds.fit adds.small adds.args_are);
       };
       len = refl;
       no_best = spec.no_best;

@@ -32,7 +32,7 @@ pub returns-then-post_passes_limit-clause-err : goal.returns-then-post_passes_li
 returns-then-post_passes_limit-clause-err c =
     let post = post_of c.args.name c.args.args c.args.names in (
       large_post c.args.draft.now post (large_on c.args.draft.now c.args.names.now c.args.args.now (c.post_passes_limit.ensures.passes c.if-post_passes_limit.true)),
-      named_post c.args.specs.now c.args.draft.now post c.in-Some.spec.now c.in_ok-scope.scope c.in-Some.ensures.declared c.in-Some.ensures.fit c.in_ok-scope.ensures.ok,
+      named_post c.args.specs.now c.args.draft.now post c.in-Some.spec.now c.in-Some.ensures.declared c.in-Some.ensures.fit c.in_ok-scope.scope c.in_ok-scope.ensures.ok,
     )
 
 pub returns-then-not-is_rising-clause-err : goal.returns-then-not-is_rising-clause-err
@@ -44,7 +44,7 @@ returns-then-not-is_rising-clause-err c =
         places = c.in_ok-scope.ensures.ok;
         falls = λ rising. true≢false (sym (c.is_rising.ensures.1 (subst IsStrictlyIncreasing (sym slice) rising)) ∙ c.if-not-is_rising.true);
       },
-      named_post c.args.specs.now c.args.draft.now post c.in-Some.spec.now c.in_ok-scope.scope c.in-Some.ensures.declared c.in-Some.ensures.fit c.in_ok-scope.ensures.ok,
+      named_post c.args.specs.now c.args.draft.now post c.in-Some.spec.now c.in-Some.ensures.declared c.in-Some.ensures.fit c.in_ok-scope.scope c.in_ok-scope.ensures.ok,
       small_post c.args.draft.now post (c.post_passes_limit.ensures.room c.if-post_passes_limit.false) (small_on c.args.names.now c.args.args.now (c.post_passes_limit.ensures.small c.if-post_passes_limit.false)),
     )
 
