@@ -33,16 +33,16 @@ low_has high low now row is below = rw (low_bit high low now row is below) (bit_
 pub high_has : (high low now row : ℕ) → high * 2 ^ 128 + low ≡ now → low < 2 ^ 128 → 128 ≤ row → IsTrue (eqb (bit_and (high / 2 ^ (row - 128)) 1) 1) ↔ Has now row
 high_has high low now row is fits above = rw (high_bit high low now row is fits above) (bit_test high (row - 128))
 
--- the low half still fits
-pub low_fits : (low row : ℕ) → low < 2 ^ 128 → row < 128 → bit_or low (1 * 2 ^ row % 2 ^ 128) < 2 ^ 128
-low_fits low row fits below = or_lt 128 low (1 * 2 ^ row % 2 ^ 128) fits (omega arith)
+-- a half with a bit more still fits
+pub bit_fits : (half place : ℕ) → half < 2 ^ 128 → place < 128 → bit_or half (1 * 2 ^ place % 2 ^ 128) < 2 ^ 128
+bit_fits half place fits below = or_lt 128 half (1 * 2 ^ place % 2 ^ 128) fits (omega arith)
 
 -- a row more in either half
 pub low_more : (high low now row : ℕ) → high * 2 ^ 128 + low ≡ now → low < 2 ^ 128 → row < 128 → (other : ℕ) → Has (high * 2 ^ 128 + bit_or low (1 * 2 ^ row % 2 ^ 128)) other ↔ (Has now other ⊎ (other ≡ row))
 low_more high low now row is fits below other = elim (cases_lt other 128) [
   | inl low_one ↦ rw (low_bit high (bit_or low (1 * 2 ^ row % 2 ^ 128)) _ other refl low_one, low_bit high low now other is low_one) (bit_more low row other below)
   | inr high_one ↦
-      let kept : bit_at (high * 2 ^ 128 + bit_or low (1 * 2 ^ row % 2 ^ 128)) other ≡ bit_at now other = high_bit high (bit_or low (1 * 2 ^ row % 2 ^ 128)) _ other refl (low_fits low row fits below) high_one ∙ sym (high_bit high low now other is fits high_one) in
+      let kept : bit_at (high * 2 ^ 128 + bit_or low (1 * 2 ^ row % 2 ^ 128)) other ≡ bit_at now other = high_bit high (bit_or low (1 * 2 ^ row % 2 ^ 128)) _ other refl (bit_fits low row fits below) high_one ∙ sym (high_bit high low now other is fits high_one) in
       (λ has. inl (sym kept ∙ has), λ either. elim either [ inl had ↦ kept ∙ had | inr same ↦ absurd (omega arith) ])
 ]
 

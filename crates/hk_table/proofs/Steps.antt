@@ -9,7 +9,8 @@ use Rattle.hk_table.specs.Members.{Member, first, later}
 use Rattle.hk_table.specs.Tables.{PlainRow}
 use Rattle.hk_table.specs.declared.entries.Entry.{Entry}
 use Rattle.hk_table.specs.declared.entries.Entry.TheVariants.{Live}
-use Rattle.hk_table.specs.inside.Reaching.{EntryLeads, LayerLeads, TakesIn}
+use Rattle.hk_table.specs.inside.Reaching.{EntryLeads, LayerLeads}
+use Rattle.hk_table.specs.TakenIn.{TakesIn}
 use Rattle.hk_text.specs.Sets.{members}
 
 -- ---- one entry

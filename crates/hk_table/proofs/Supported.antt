@@ -10,7 +10,8 @@ use Rattle.hk_base.specs.Sets.{Has}
 use Rattle.hk_table.specs.Keeps.{SupportsFrom, supports_here, supports_later}
 use Rattle.hk_table.specs.Supporting.{IsSupportable, RowLeads}
 use Rattle.hk_table.specs.Tables.{PlainRow, PlainShape, layer_values}
-use Rattle.hk_table.specs.inside.Reaching.{EntryLeads, LayerLeads, TakesIn}
+use Rattle.hk_table.specs.inside.Reaching.{EntryLeads, LayerLeads}
+use Rattle.hk_table.specs.TakenIn.{TakesIn}
 use Rattle.hk_text.specs.Sets.{members}
 
 -- a value is supported so many layers on from one of the rows that are reached

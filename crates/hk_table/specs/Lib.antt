@@ -1,9 +1,11 @@
 pub mod Fits
+pub mod Halves
 pub mod Items
 pub mod Keeps
 pub mod Members
 pub mod Opening
 pub mod Supporting
 pub mod Tables
+pub mod TakenIn
 pub mod Traces
 pub mod inside

@@ -24,6 +24,7 @@ pub use laws::{kept_values_are_supported, opening_table_fits, opening_table_keep
 pub use list_trace::ListTrace;
 pub use null_trace::NullTrace;
 pub use row_sets::RowSet;
+pub use support::Found;
 pub use tables::{Layers, Row, Shape, Table};
 pub use traces::{Trace, TraceFault};
 pub use value_sets::{split_least, value_count};

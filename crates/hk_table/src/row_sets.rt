@@ -1,5 +1,5 @@
 //! Sets of rows of one layer.
-ghost use Rattle.std.specs.Prelude.{◌≡◌, ℕ, ◌<◌, ◌↔◌, ◌⊎◌, IsTrue};
+ghost use Rattle.std.specs.Prelude.{◌≡◌, ℕ, ◌+◌, ◌*◌, ◌^◌, ◌<◌, ◌↔◌, ◌⊎◌, IsTrue};
 ghost use Rattle.hk_base.specs.Sets.{Has};
 
 use std::marker::Model;
@@ -12,13 +12,14 @@ pub struct RowSet {
 }
 
 impl Model for RowSet {
-    ghost use Rattle.std.specs.Prelude.{ℕ, ◌+◌, ◌*◌, ◌^◌, ◌<◌};
+    ghost use Rattle.hk_table.specs.Halves.{AreHalves};
+    ghost use Rattle.std.specs.Prelude.{ℕ, ◌+◌, ◌*◌, ◌^◌};
 
     ghost Value = { ℕ };
 
     ghost view = { λ s. s.high * 2 ^ 128 + s.low };
 
-    ghost invariant = { λ s. s.low < 2 ^ 128 };
+    ghost invariant = { λ s. AreHalves s.low s.high };
 }
 
 impl RowSet {
@@ -27,6 +28,25 @@ impl RowSet {
         ensures { result ≡ 0 }
     {
         RowSet { low: 0, high: 0 }
+    }
+
+    /// The set whose rows below 128 are those of one half, and whose rows from 128 on are those of
+    /// the other.
+    #[inline]
+    pub fn of_halves(low: u128, high: u128) -> RowSet
+        ensures { result ≡ high * 2 ^ 128 + low }
+    {
+        RowSet { low, high }
+    }
+
+    /// The two halves that the set is made of: of its rows below 128, and of those from 128 on.
+    #[inline]
+    pub fn halves(&self) -> (u128, u128)
+        ensures set { self.now ≡ result.1 * 2 ^ 128 + result.0 }
+        ensures low { result.0 < 2 ^ 128 }
+        ensures high { result.1 < 2 ^ 128 }
+    {
+        (self.low, self.high)
     }
 
     /// Whether the set has a row.

@@ -3,7 +3,8 @@ ghost use Rattle.std.specs.Prelude.{◌≡◌, ◌↔◌, ℕ, ◌<◌, ◌≤�
 ghost use Rattle.hk_base.specs.Sets.{Has};
 ghost use Rattle.hk_table.specs.Keeps.{Supports};
 ghost use Rattle.hk_table.specs.Supporting.{IsSupportable, RowLeads};
-ghost use Rattle.hk_table.specs.inside.Reaching.{EntryLeads, LayerLeads, TakesIn};
+ghost use Rattle.hk_table.specs.inside.Reaching.{EntryLeads, LayerLeads};
+ghost use Rattle.hk_table.specs.TakenIn.{TakesIn};
 ghost use Rattle.hk_text.specs.Sets.{members};
 
 use crate::entries::Entry;
@@ -34,14 +35,15 @@ impl Table {
 
 /// The values of steps from a layer to the next, and the rows that they lead to.
 #[derive(Drop)]
-struct Found {
-    values: u128,
-    rows: RowSet,
+pub struct Found {
+    pub values: u128,
+    pub rows: RowSet,
 }
 
 impl Found {
     /// Takes in the step by a value to a row.
-    fn add(&mut self, value: u8, row: u16)
+    #[inline]
+    pub fn add(&mut self, value: u8, row: u16)
         requires value { value < 128 }
         requires row { row < 256 }
         ensures { TakesIn (λ v r. (v ≡ value) × (r ≡ row)) self.old.values self.old.rows self.new.values self.new.rows }

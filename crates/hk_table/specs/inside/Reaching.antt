@@ -1,5 +1,5 @@
 -- What one pass over a layer makes of the rows that were reached there.
-use Rattle.std.specs.Prelude.{◌≡◌, ◌↔◌, ◌⊎◌, ℕ, ◌<◌, List, slice_get, Some}
+use Rattle.std.specs.Prelude.{◌≡◌, ℕ, ◌<◌, List, slice_get, Some}
 use Rattle.hk_base.specs.Sets.{Has}
 use Rattle.hk_table.specs.Tables.{PlainRow, entry_for}
 use Rattle.hk_table.specs.declared.entries.Entry.{Entry}
@@ -18,8 +18,3 @@ pub record LayerLeads (values : List ℕ) (layer : List PlainRow) (reached befor
   pub among : Has reached at
   pub there : slice_get layer at ≡ Some row
   pub leads : EntryLeads values row.entries value next
-
--- a set of values and one of rows have, beside what they had, the values and the rows of these steps
-pub record TakesIn (Step : ℕ → ℕ → Type 0) (old_values old_rows new_values new_rows : ℕ) : Type 0 where
-  pub values : (value : ℕ) → Has new_values value ↔ (Has old_values value ⊎ ((next : ℕ) × Step value next))
-  pub rows : (next : ℕ) → Has new_rows next ↔ (Has old_rows next ⊎ ((value : ℕ) × Step value next))

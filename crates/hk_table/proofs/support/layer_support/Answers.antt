@@ -3,7 +3,8 @@ use Rattle.std.proofs.lemmas.Option.{slice_get_read}
 use Rattle.hk_table.proofs.Steps.{TakesIn-none, row_passed, row_taken}
 use Rattle.hk_table.specs.Tables.{PlainRow}
 use Rattle.hk_table.specs.declared.support.Found.{Found}
-use Rattle.hk_table.specs.inside.Reaching.{EntryLeads, LayerLeads, TakesIn}
+use Rattle.hk_table.specs.inside.Reaching.{EntryLeads, LayerLeads}
+use Rattle.hk_table.specs.TakenIn.{TakesIn}
 use Rattle.hk_table.proofs.support.layer_support.Goals as goal
 use Rattle.hk_table.proofs.support.layer_support.Goals.{then-has, else-has}
 use Rattle.hk_text.specs.Sets.{members}

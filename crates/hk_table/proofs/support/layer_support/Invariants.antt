@@ -1,4 +1,5 @@
-use Rattle.hk_table.specs.inside.Reaching.{LayerLeads, TakesIn}
+use Rattle.hk_table.specs.inside.Reaching.{LayerLeads}
+use Rattle.hk_table.specs.TakenIn.{TakesIn}
 use Rattle.hk_table.proofs.support.layer_support.Given as goal
 use Rattle.hk_text.specs.Sets.{members}
 

@@ -5,4 +5,4 @@ pub returns-then-row-lt128 : goal.returns-then-row-lt128
 returns-then-row-lt128 c = low_has c.self.inside.high c.self.inside.low c.args.self.now c.args.row c.self.view_is c.if-row-lt128.true
 
 pub returns-else-row-lt128 : goal.returns-else-row-lt128
-returns-else-row-lt128 c = high_has c.self.inside.high c.self.inside.low c.args.self.now c.args.row c.self.view_is c.self.invariant c.if-row-lt128.false
+returns-else-row-lt128 c = high_has c.self.inside.high c.self.inside.low c.args.self.now c.args.row c.self.view_is c.self.invariant.low_fits c.if-row-lt128.false

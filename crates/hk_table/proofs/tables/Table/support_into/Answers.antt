@@ -3,7 +3,8 @@ use Rattle.std.proofs.lemmas.List.{get_or_read}
 use Rattle.hk_table.proofs.Supported.{layer_leads, layer_read, support_more, values_from}
 use Rattle.hk_table.specs.Supporting.{RowLeads}
 use Rattle.hk_table.specs.Tables.{PlainShape, layer_values}
-use Rattle.hk_table.specs.inside.Reaching.{LayerLeads, TakesIn}
+use Rattle.hk_table.specs.inside.Reaching.{LayerLeads}
+use Rattle.hk_table.specs.TakenIn.{TakesIn}
 use Rattle.hk_table.proofs.tables.Table.support_into.Goals as goal
 use Rattle.hk_text.specs.Sets.{members}
 
