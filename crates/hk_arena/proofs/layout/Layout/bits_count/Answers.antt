@@ -1,0 +1,9 @@
+use Rattle.std.proofs.Common.{arith}
+use Rattle.hk_arena.proofs.PoolSizes.{bits_count_is}
+use Rattle.hk_arena.proofs.layout.Layout.bits_count.Goals as goal
+
+pub overflow_mul-result-2 : goal.overflow_mul-result-2
+overflow_mul-result-2 c = omega (arith, bits_count_is c.self.invariant c.self.view_is c.layers.ensures)
+
+pub returns : goal.returns
+returns c = (bits_count_is c.self.invariant c.self.view_is c.layers.ensures).is

@@ -1,0 +1,12 @@
+pub mod Cells
+pub mod Changes
+pub mod Diagrams
+pub mod Forms
+pub mod Kept
+pub mod Layouts
+pub mod Levels
+pub mod Making
+pub mod Numbers
+pub mod Properties
+pub mod Supporting
+pub mod inside

@@ -1,0 +1,4 @@
+pub mod OneRow
+pub mod Openings
+pub mod Writes
+pub mod Zeros
