@@ -17,9 +17,9 @@ use Rattle.hk_kinds.specs.declared.properties.Prop.{Prop}
 use Rattle.hk_kinds.proofs.DistinctLaws.{IsIn, is_first, is_later, Rises, rises_more, above_in, less_turned, distinct_rises, distinct_has, distinct_only}
 use Rattle.hk_kinds.proofs.StateOrder.{state_total}
 use Rattle.hk_table.specs.Members.{Member, first, later}
-use Rattle.hk_sweep.specs.Tight.{Arc, Half, Mark, is_gone, is_cut, goes_on, arcs_of_mark, arcs_of_values, arcs_of_rows, arcs_to, joined, next_halves, place_by, place_of, row_for, row_of_step, steps_of}
+use Rattle.hk_layers.specs.Layers.{Arc, Half, Mark, is_gone, is_cut, goes_on, arcs_of_mark, arcs_of_values, arcs_of_rows, arcs_to, joined, next_halves, place_by, place_of, row_for, row_of_step, steps_of}
 use Rattle.hk_sweep.proofs.Joins.{AreShaped, join_has_shape, join_covers}
-use Rattle.hk_sweep.proofs.Shares.{row_below, row_reached}
+use Rattle.hk_layers.proofs.Shares.{row_below, row_reached}
 use Rattle.hk_sweep.proofs.Lists.{IsMade, append_left, append_right, append_or, any_has, filter_from, filter_has, get_map, get_member, get_at, head_or, map_from, map_has, range_get, range_has, range_increases, range_within, all_from_members}
 
 -- ---- where arcs come from

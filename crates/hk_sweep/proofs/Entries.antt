@@ -6,8 +6,8 @@ use Rattle.hk_table.specs.Members.{Member}
 use Rattle.hk_table.specs.Tables.{PlainRow, NamesRow, by_live, by_dead, entry_for}
 use Rattle.hk_table.specs.declared.entries.Entry.{Entry}
 use Rattle.hk_table.specs.declared.entries.Entry.TheVariants.{Gone, Cut, Dead, Live}
-use Rattle.hk_sweep.specs.Tight.{Half, goes_on, up_state, judged_by, entry_of_mark, finished, row_of_step}
-use Rattle.hk_sweep.specs.Transitions.{Transitions}
+use Rattle.hk_layers.specs.Layers.{Half, goes_on, up_state, judged_by, entry_of_mark, finished, row_of_step}
+use Rattle.hk_layers.specs.Transitions.{Transitions}
 use Rattle.hk_sweep.proofs.Marks.{StandsFor, stands_made, stands_not, stands_for, live_has_value, marks, Goes, step_by, targets_by, MarkIs, marked_gone, marked_cut, marked_on, mark_is}
 
 module _ (t : Transitions) (best : ℤ) (width layer : ℕ) (values : List ℕ) (domain : ℕ) (old old_next : List PlainRow) (steps : List (List Prop)) (next : List PlainRow) where

@@ -12,8 +12,9 @@ use Rattle.hk_table.specs.declared.entries.Entry.TheVariants.{Dead, Live}
 use Rattle.hk_text.specs.Sets.{members}
 use Rattle.hk_sweep.specs.Exact.{PathTo, path_ends, path_goes_on, step_of_entry, steps_of_entries, steps_of_rows, HasFewSteps, few_on_layer}
 use Rattle.hk_sweep.specs.Loose.{group_shape}
-use Rattle.hk_sweep.specs.Tight.{Half, Mark, is_gone, is_cut, goes_on, Arc, arcs_of_mark, arcs_of_values, arcs_of_rows, steps_of, row_of_step, arcs_to, next_halves, judged_by, up_state, entry_of_mark, last_row, tight_from, first_half, tight_revision}
-use Rattle.hk_sweep.specs.Transitions.{Transitions, transitions_of, layer_sets, down_along}
+use Rattle.hk_layers.specs.Layers.{Half, Mark, is_gone, is_cut, goes_on, Arc, arcs_of_mark, arcs_of_values, arcs_of_rows, steps_of, row_of_step, arcs_to, next_halves, judged_by, up_state, entry_of_mark, last_row}
+use Rattle.hk_sweep.specs.Tight.{tight_from, first_half, tight_revision}
+use Rattle.hk_layers.specs.Transitions.{Transitions, transitions_of, layer_sets, down_along}
 use Rattle.hk_sweep.proofs.Arcs.{step_of, arc_of, arcs_to_from, arcs_to_has, half_at, halves_long, next_half, rows_have_arc, values_have_arc}
 use Rattle.hk_sweep.proofs.Entries.{GoesTo, entry_at, goes_value, named, row_at}
 use Rattle.hk_sweep.proofs.ExactSteps.{made_at, same_row, joined_same}

@@ -1,7 +1,7 @@
 -- The exact runs of transitions: the exact up states, and which values are accepted.
 use Rattle.std.specs.Prelude.{ℕ, ℤ, ◌+◌, List, [], ◌∷◌, IsTrue}
 use Rattle.hk_kinds.specs.declared.properties.Prop.{Prop}
-use Rattle.hk_sweep.specs.Transitions.{Transitions}
+use Rattle.hk_layers.specs.Transitions.{Transitions}
 
 -- the up state before the values from a layer on: the initial one after the last, and a step back for each value
 abbrev pub up_along : Transitions → ℕ → List ℕ → List Prop

@@ -7,9 +7,9 @@ use Rattle.hk_kinds.specs.declared.kinds.Kind.{Kind}
 use Rattle.hk_kinds.specs.declared.properties.Prop.{Prop}
 use Rattle.hk_kinds.proofs.StateLaws.{state_lattice, covers-join}
 use Rattle.hk_table.specs.Members.{Member, first, later}
-use Rattle.hk_sweep.specs.Tight.{Arc, steps_of, row_for, row_of_step, join_onto, joined}
+use Rattle.hk_layers.specs.Layers.{Arc, steps_of, row_for, row_of_step, join_onto, joined}
 use Rattle.hk_sweep.proofs.Arcs.{step_of, step_stands, steps_rise, place_at}
-use Rattle.hk_sweep.proofs.Shares.{row_by_place}
+use Rattle.hk_layers.proofs.Shares.{row_by_place}
 use Rattle.hk_sweep.proofs.Lists.{get_at, get_map, get_within, map_from, one_item, place_of_member}
 
 -- what stands at a place of a mapped list is made of the item at this place

@@ -9,7 +9,7 @@ use Rattle.hk_group.proofs.PartsRevised.{monotone_group, initial_up_shape, up_of
 use Rattle.hk_table.specs.Keeps.{Keeps, LieIn}
 use Rattle.hk_table.specs.Tables.{PlainRow}
 use Rattle.hk_sweep.specs.Loose.{IsLooseRevision, group_shape}
-use Rattle.hk_sweep.specs.Transitions.{transitions_of, layer_sets}
+use Rattle.hk_layers.specs.Transitions.{transitions_of, layer_sets}
 use Rattle.hk_sweep.proofs.ExactRuns.{up_along, AcceptsFrom, accepts_last, accepts_layer}
 use Rattle.hk_sweep.proofs.Kept.{AreRevisable, keeps}
 

@@ -7,7 +7,7 @@ use Rattle.hk_kinds.specs.declared.kinds.Kind.{Kind}
 use Rattle.hk_kinds.specs.declared.properties.Prop.{Prop}
 use Rattle.hk_kinds.proofs.StateLaws.{state_lattice, HasShape-join, to_StateCovers, from_StateCovers}
 use Rattle.hk_table.specs.Members.{Member, first, later}
-use Rattle.hk_sweep.specs.Tight.{join_onto, join_states, joined_up}
+use Rattle.hk_layers.specs.Layers.{join_onto, join_states, joined_up}
 
 -- all states of a list have the shape
 pub record AreShaped (kinds : List Kind) (states : List (List Prop)) : Type 0 where

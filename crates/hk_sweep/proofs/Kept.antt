@@ -14,7 +14,7 @@ use Rattle.hk_table.specs.Tables.{PlainRow, NamesRow, by_live, by_dead, entry_fo
 use Rattle.hk_table.specs.declared.entries.Entry.{Entry}
 use Rattle.hk_table.specs.declared.entries.Entry.TheVariants.{Gone, Cut, Dead, Live}
 use Rattle.hk_sweep.specs.Loose.{LeadsTo, ReceivesStep, DeadCause, leads_nowhere, test_fails, IsDeadEnd, CoversUp, Begins, RowIsLoose, LastRowIsLoose, LayersAreLoose, last_is_loose, layer_is_loose, IsLoose}
-use Rattle.hk_sweep.specs.Transitions.{Transitions}
+use Rattle.hk_layers.specs.Transitions.{Transitions}
 use Rattle.hk_sweep.proofs.ExactRuns.{up_along, AcceptsFrom, accepts_layer}
 
 -- what keeping needs of transitions: the steps of a state that covers another cover the other's, a test that holds goes

@@ -12,7 +12,6 @@ pub mod OneValue
 pub mod Pieces
 pub mod Rows
 pub mod Shapes
-pub mod Shares
 pub mod Shown
 pub mod TightFits
 pub mod TightGroups

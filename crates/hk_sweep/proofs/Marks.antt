@@ -10,8 +10,8 @@ use Rattle.hk_table.specs.Tables.{PlainRow, entry_for}
 use Rattle.hk_table.specs.declared.entries.Entry.{Entry}
 use Rattle.hk_table.specs.declared.entries.Entry.TheVariants.{Gone, Cut, Dead, Live}
 use Rattle.hk_sweep.specs.Loose.{LeadsTo, GoesOn}
-use Rattle.hk_sweep.specs.Tight.{Half, Mark, is_gone, is_cut, goes_on, is_live_to, old_entry, targets, mark_by, mark}
-use Rattle.hk_sweep.specs.Transitions.{Transitions}
+use Rattle.hk_layers.specs.Layers.{Half, Mark, is_gone, is_cut, goes_on, is_live_to, old_entry, targets, mark_by, mark}
+use Rattle.hk_layers.specs.Transitions.{Transitions}
 use Rattle.hk_sweep.proofs.Lists.{any_from, any_has, filter_from, filter_has, head_or, range_has, range_within}
 
 -- ---- entries that stand for values

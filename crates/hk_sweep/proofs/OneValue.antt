@@ -14,8 +14,9 @@ use Rattle.hk_table.specs.declared.entries.Entry.{Entry}
 use Rattle.hk_table.specs.declared.entries.Entry.TheVariants.{Live}
 use Rattle.hk_sweep.specs.Loose.{group_shape}
 use Rattle.hk_sweep.specs.OneValue.{AreOnly, only_none, only_more}
-use Rattle.hk_sweep.specs.Tight.{Half, Mark, goes_on, Arc, arcs_of_rows, steps_of, arcs_to, next_halves, join_onto, up_steps, joined_up, last_row, tight_from, first_half, tight_revision}
-use Rattle.hk_sweep.specs.Transitions.{Transitions, transitions_of, layer_sets}
+use Rattle.hk_layers.specs.Layers.{Half, Mark, goes_on, Arc, arcs_of_rows, steps_of, arcs_to, next_halves, join_onto, up_steps, joined_up, last_row}
+use Rattle.hk_sweep.specs.Tight.{tight_from, first_half, tight_revision}
+use Rattle.hk_layers.specs.Transitions.{Transitions, transitions_of, layer_sets}
 use Rattle.hk_sweep.proofs.Arcs.{arc_of_rows, arcs_to_from, half_made, row_has_arc}
 use Rattle.hk_sweep.proofs.Entries.{Lives, entry_at, goes_value, lived, lived_at, row_at}
 use Rattle.hk_sweep.proofs.ExactRuns.{up_along, AcceptsFrom, accepts_last, accepts_layer}

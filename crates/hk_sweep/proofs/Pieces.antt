@@ -10,7 +10,7 @@ use Rattle.hk_kinds.specs.declared.kinds.Kind.{Kind}
 use Rattle.hk_kinds.specs.declared.kinds.Kind.TheVariants.{Min, Interval, SomeBits, AllBits}
 use Rattle.hk_kinds.specs.declared.properties.Prop.{Prop}
 use Rattle.hk_kinds.specs.declared.properties.Prop.TheVariants.{Num, Pair, Bits}
-use Rattle.hk_sweep.specs.Transitions.{Transitions}
+use Rattle.hk_layers.specs.Transitions.{Transitions}
 
 -- what a specification with its arguments does at a place of its scope
 pub record Piece : Type 0 where

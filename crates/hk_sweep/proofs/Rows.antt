@@ -9,8 +9,8 @@ use Rattle.hk_table.specs.Members.{Member}
 use Rattle.hk_table.specs.Tables.{PlainRow}
 use Rattle.hk_table.specs.declared.entries.Entry.{Entry}
 use Rattle.hk_table.specs.declared.entries.Entry.TheVariants.{Live}
-use Rattle.hk_sweep.specs.Tight.{Arc, Half, arcs_of_rows, arcs_to, joined_up, join_states, last_row, next_halves, steps_of, up_steps}
-use Rattle.hk_sweep.specs.Transitions.{Transitions}
+use Rattle.hk_layers.specs.Layers.{Arc, Half, arcs_of_rows, arcs_to, joined_up, join_states, last_row, next_halves, steps_of, up_steps}
+use Rattle.hk_layers.specs.Transitions.{Transitions}
 use Rattle.hk_sweep.proofs.Arcs.{IsArc, AreShapedArcs, arc_of, arc_of_rows, arcs_to_from, arcs_to_has, half_at, half_made, halves_long, joined_ascends, joined_comes, joined_covers, joined_has_shape, joined_there, next_half, row_has_arc, rows_have_arc, step_below, values_have_arc}
 use Rattle.hk_sweep.proofs.Entries.{GoesTo, Lives, entry_at, goes_value, lived_at, row_at}
 use Rattle.hk_sweep.proofs.Joins.{AreShaped, joined_up_has_shape, joined_up_is, joined_up_of, join_covers}

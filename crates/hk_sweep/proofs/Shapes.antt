@@ -10,7 +10,7 @@ use Rattle.hk_group.proofs.PartsRevised.{down_of_shape, up_of_shape, initial_dow
 use Rattle.hk_table.specs.Members.{Member}
 use Rattle.hk_table.specs.Tables.{PlainRow}
 use Rattle.hk_text.specs.Sets.{members}
-use Rattle.hk_sweep.specs.Transitions.{Transitions, transitions_of, layer_sets}
+use Rattle.hk_layers.specs.Transitions.{Transitions, transitions_of, layer_sets}
 use Rattle.hk_sweep.proofs.Lists.{filter_from, range_within}
 
 -- the initial states have the shapes, and a step by a value below 128 keeps them

@@ -8,8 +8,9 @@ use Rattle.hk_table.specs.Fits.{RowFits, LayersFit, last_fits, layer_fits}
 use Rattle.hk_table.specs.Members.{Member}
 use Rattle.hk_table.specs.Tables.{PlainRow, NamesRow, entry_for}
 use Rattle.hk_table.specs.declared.entries.Entry.TheVariants.{Live}
-use Rattle.hk_sweep.specs.Tight.{Half, Layers, first_half, last_row, tight, tight_from, up_state}
-use Rattle.hk_sweep.specs.Transitions.{Transitions}
+use Rattle.hk_layers.specs.Layers.{Half, last_row, up_state}
+use Rattle.hk_sweep.specs.Tight.{Layers, first_half, tight, tight_from}
+use Rattle.hk_layers.specs.Transitions.{Transitions}
 use Rattle.hk_sweep.specs.Widths.{IsWithinWidth, NamesRows, names_last, names_layer, ComesFromRows, AllComeFromRows, come_none, come_layer}
 use Rattle.hk_sweep.proofs.Entries.{Lives, entry_at, goes_value, lived, named_at, row_at}
 use Rattle.hk_sweep.proofs.Lists.{all_made, get_within, head_or}

@@ -5,7 +5,7 @@ use Rattle.hk_table.specs.Fits.{Fits}
 use Rattle.hk_table.specs.Tables.{PlainRow, layer_values}
 use Rattle.hk_sweep.specs.Loose.{IsLooseRevision, group_shape}
 use Rattle.hk_sweep.specs.Tight.{tight_revision}
-use Rattle.hk_sweep.specs.Transitions.{transitions_of, layer_sets}
+use Rattle.hk_layers.specs.Transitions.{transitions_of, layer_sets}
 use Rattle.hk_sweep.specs.Widths.{HasFirstRow, has_first_row, IsWithinWidth, NamesRows, AllComeFromRows}
 use Rattle.hk_sweep.proofs.Shapes.{for_group, group_keeps_shapes}
 use Rattle.hk_sweep.proofs.TightFits.{tight_comes, tight_fits, tight_names_rows, tight_within}

@@ -7,8 +7,9 @@ use Rattle.hk_table.specs.Members.{Member}
 use Rattle.hk_table.specs.Tables.{PlainRow, entry_for}
 use Rattle.hk_table.specs.declared.entries.Entry.TheVariants.{Live}
 use Rattle.hk_sweep.specs.Loose.{ReceivesStep, leads_nowhere, test_fails, IsDeadEnd, CoversUp, Begins, Comes, RowIsLoose, LastRowIsLoose, LayersAreLoose, last_is_loose, layer_is_loose, IsLoose}
-use Rattle.hk_sweep.specs.Tight.{Half, first_half, last_row, tight, tight_from, up_state}
-use Rattle.hk_sweep.specs.Transitions.{Transitions}
+use Rattle.hk_layers.specs.Layers.{Half, last_row, up_state}
+use Rattle.hk_sweep.specs.Tight.{first_half, tight, tight_from}
+use Rattle.hk_layers.specs.Transitions.{Transitions}
 use Rattle.hk_sweep.proofs.Entries.{Dies, dies_nowhere, dies_by_test, GoesTo, died, entry_at, goes_value, is_gone_where, lived, named, was_cut, was_gone}
 use Rattle.hk_sweep.proofs.Joins.{covers_itself}
 use Rattle.hk_sweep.proofs.Lists.{all_made, get_within, only_one}

@@ -23,7 +23,7 @@ use Rattle.hk_spec.specs.declared.parts.PropDecl.{PropDecl}
 use Rattle.hk_spec.specs.declared.parts.StepExpr.TheVariants as step
 use Rattle.hk_sweep.proofs.Pieces as plain
 use Rattle.hk_sweep.proofs.Pieces.{Piece, Placed, beside, digits_in, card}
-use Rattle.hk_sweep.specs.Transitions.{transitions_of}
+use Rattle.hk_layers.specs.Transitions.{transitions_of}
 
 -- what a specification with its arguments does, as a piece
 abbrev pub piece_of : BoundSpecification → Piece

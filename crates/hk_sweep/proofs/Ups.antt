@@ -5,8 +5,8 @@ use Rattle.hk_table.specs.Members.{Member, first, later}
 use Rattle.hk_table.specs.Tables.{PlainRow}
 use Rattle.hk_table.specs.declared.entries.Entry.{Entry}
 use Rattle.hk_table.specs.declared.entries.Entry.TheVariants.{Gone, Cut, Dead, Live}
-use Rattle.hk_sweep.specs.Tight.{up_state, up_step_by, up_step_of, up_steps}
-use Rattle.hk_sweep.specs.Transitions.{Transitions}
+use Rattle.hk_layers.specs.Layers.{up_state, up_step_by, up_step_of, up_steps}
+use Rattle.hk_layers.specs.Transitions.{Transitions}
 use Rattle.hk_sweep.proofs.Lists.{append_left, append_right, append_or, head_or}
 
 -- a row that is there, with this up state

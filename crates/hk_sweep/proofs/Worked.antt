@@ -14,7 +14,7 @@ use Rattle.hk_sweep.proofs.Transcribed.{transitions_are, sum_is, objective_is, a
 use Rattle.hk_sweep.specs.Loose.{group_shape}
 use Rattle.hk_text.specs.Sets.{members}
 use Rattle.hk_sweep.specs.Tight.{tight, tight_revision}
-use Rattle.hk_sweep.specs.Transitions.{transitions_of}
+use Rattle.hk_layers.specs.Transitions.{transitions_of}
 
 -- two variables of 0 and 1 whose sum is 1 and costs as much
 abbrev pub pair : PlainGroup

@@ -20,7 +20,7 @@ use Rattle.hk_sweep.proofs.Pieces.{Piece, number_at, beside, on, objective_piece
 use Rattle.hk_sweep.proofs.Shown.{row, without_up, neg, set_of, part}
 use Rattle.hk_sweep.proofs.Transcribed.{piece_of, transitions_are, objective_is}
 use Rattle.hk_sweep.specs.Tight.{tight}
-use Rattle.hk_sweep.specs.Transitions.{transitions_of}
+use Rattle.hk_layers.specs.Transitions.{transitions_of}
 
 -- `spec fall ()`, `down m Max 9`, `test (v <= m)`, `step m v`, `end`: no value is above the one before it
 abbrev pub falling_bound : ℕ → BoundSpecification

@@ -13,7 +13,7 @@ use Rattle.hk_sweep.proofs.Shown.{row, without_up, span, bits, neg, set_of, part
 use Rattle.hk_sweep.proofs.Transcribed.{transitions_are, sum_is, among_is, alldifferent_is}
 use Rattle.hk_text.specs.Sets.{members}
 use Rattle.hk_sweep.specs.Tight.{tight, tight_revision}
-use Rattle.hk_sweep.specs.Transitions.{transitions_of}
+use Rattle.hk_layers.specs.Transitions.{transitions_of}
 
 -- a sum with a coefficient below 0, beside a count
 abbrev pub scopes : PlainGroup

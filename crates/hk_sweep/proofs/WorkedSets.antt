@@ -11,7 +11,7 @@ use Rattle.hk_sweep.proofs.Pieces.{beside, on, sequence_piece, alldifferent_piec
 use Rattle.hk_sweep.proofs.Shown.{row, without_up, span, bits, set_of, part}
 use Rattle.hk_sweep.proofs.Transcribed.{transitions_are, sequence_two_is, alldifferent_is}
 use Rattle.hk_sweep.specs.Tight.{tight}
-use Rattle.hk_sweep.specs.Transitions.{transitions_of}
+use Rattle.hk_layers.specs.Transitions.{transitions_of}
 
 -- four variables that differ, of sets that differ
 abbrev pub distinct : PlainGroup

@@ -12,7 +12,7 @@ use Rattle.hk_sweep.proofs.Pieces.{beside, on, sum_piece, sequence_piece, object
 use Rattle.hk_sweep.proofs.Shown.{row, without_up, span, set_of, part}
 use Rattle.hk_sweep.proofs.Transcribed.{transitions_are, sum_is, sequence_three_is, objective_is}
 use Rattle.hk_sweep.specs.Tight.{tight}
-use Rattle.hk_sweep.specs.Transitions.{transitions_of}
+use Rattle.hk_layers.specs.Transitions.{transitions_of}
 
 -- a sequence beside a sum, of values with gaps
 abbrev pub windows : PlainGroup

@@ -5,7 +5,7 @@ use Rattle.hk_kinds.specs.declared.properties.Prop.{Prop}
 use Rattle.hk_table.specs.Tables.{PlainRow, NamesRow, entry_for}
 use Rattle.hk_table.specs.declared.entries.Entry.{Entry}
 use Rattle.hk_table.specs.declared.entries.Entry.TheVariants.{Dead, Live}
-use Rattle.hk_sweep.specs.Transitions.{Transitions}
+use Rattle.hk_layers.specs.Transitions.{Transitions}
 
 -- from a row of the first of these layers on, Live and Dead entries at these values lead to this row of a later layer
 pub data PathTo : List (List ℕ) → List (List PlainRow) → ℕ → List ℕ → PlainRow → Type 0 where

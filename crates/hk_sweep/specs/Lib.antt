@@ -2,5 +2,4 @@ pub mod Exact
 pub mod Loose
 pub mod OneValue
 pub mod Tight
-pub mod Transitions
 pub mod Widths

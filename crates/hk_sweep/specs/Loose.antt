@@ -10,7 +10,7 @@ use Rattle.hk_table.specs.Fits.{LayersFit}
 use Rattle.hk_table.specs.Members.{Member}
 use Rattle.hk_table.specs.Tables.{PlainRow, PlainShape, NamesRow, entry_for, layer_values}
 use Rattle.hk_table.specs.declared.entries.Entry.TheVariants.{Gone, Cut, Dead, Live}
-use Rattle.hk_sweep.specs.Transitions.{Transitions, transitions_of, layer_sets}
+use Rattle.hk_layers.specs.Transitions.{Transitions, transitions_of, layer_sets}
 
 -- of two layers of the old table, a row of the first that is named here has a Live entry at the value, which leads to this
 -- row of the second, and it is there

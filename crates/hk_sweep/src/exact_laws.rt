@@ -8,7 +8,7 @@ ghost use Rattle.hk_sweep.specs.Exact.{PathTo, HasFewSteps};
 ghost use Rattle.hk_sweep.specs.Loose.{group_shape};
 ghost use Rattle.hk_sweep.specs.OneValue.{AreOnly};
 ghost use Rattle.hk_sweep.specs.Tight.{tight_revision};
-ghost use Rattle.hk_sweep.specs.Transitions.{transitions_of, layer_sets, down_along};
+ghost use Rattle.hk_layers.specs.Transitions.{transitions_of, layer_sets, down_along};
 
 /// Where each layer has at most as many distinct steps as the width says, every down state of the
 /// tight revision is the exact down state of each path that reaches it.

@@ -6,7 +6,7 @@ ghost use Rattle.hk_group.specs.Groups.{PlainGroup, Part, IsGroup};
 ghost use Rattle.hk_table.specs.Keeps.{Keeps, LieIn};
 ghost use Rattle.hk_table.specs.Tables.{PlainRow};
 ghost use Rattle.hk_sweep.specs.Loose.{IsLooseRevision, group_shape};
-ghost use Rattle.hk_sweep.specs.Transitions.{layer_sets};
+ghost use Rattle.hk_layers.specs.Transitions.{layer_sets};
 
 /// A loose revision of a group's table keeps every assignment that the table keeps, that lies in the
 /// domains and that the group accepts under the bound, where each part of the group is monotone.

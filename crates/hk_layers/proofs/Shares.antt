@@ -3,7 +3,8 @@ use Rattle.std.proofs.Common.{◌≡◌, ℕ, suc, ◌+◌, ◌*◌, ◌/◌, �
 use Rattle.std.proofs.lemmas.Bool.{cases_lt, cond-true, cond-false, le-leb, lt-leb}
 use Rattle.std.proofs.lemmas.Nat.{div_below}
 use Rattle.std.proofs.Math.Nat.{div-eq_of_lt-le, lt-div-mul-add}
-use Rattle.hk_sweep.specs.Tight.{row_for}
+use Rattle.hk_layers.specs.Layers.{row_for}
+use Rattle.hk_layers.specs.Shares.{IsReached}
 
 pub row_by_place : (width count place : ℕ) → count ≤ width → row_for width count place ≡ place
 row_by_place width count place le = cond-true (leb count width) place (place * width / count) (le-leb count width le)
@@ -20,12 +21,6 @@ row_below width count place some below =
     (λ lt. let share = share_below width count place some below in omega (arith, row_by_share width count place lt))
     (λ le. omega (arith, row_by_place width count place le))
     (cases_lt width count)
-
--- a place that leads to this row
-pub record IsReached (width count row : ℕ) : Type 0 where
-  pub place : ℕ
-  pub below : place < count
-  pub leads : row_for width count place ≡ row
 
 share_reached : (width count row : ℕ) → 0 < width → width < count → row < width → IsReached width count row
 share_reached width count row some lt below =

@@ -1,0 +1,4 @@
+pub mod FlatUps
+pub mod Risings
+pub mod Shares
+pub mod UpLists
