@@ -6,6 +6,8 @@
 #[cfg(test)]
 mod copies;
 #[cfg(test)]
+mod diagrams;
+#[cfg(test)]
 mod openings;
 #[cfg(test)]
 mod sets;
