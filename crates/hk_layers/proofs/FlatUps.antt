@@ -5,10 +5,10 @@ use Rattle.hk_group.specs.Groups.{group_up_shape, group_passes}
 use Rattle.hk_kinds.specs.declared.kinds.Kind.{Kind}
 use Rattle.hk_kinds.specs.declared.properties.Prop.{Prop}
 use Rattle.hk_kinds.specs.Joins.{state_join}
-use Rattle.hk_table.specs.Tables.{PlainRow}
+use Rattle.hk_table.specs.Tables.{PlainRow, flat_entries}
 use Rattle.hk_table.specs.declared.entries.Entry.{Entry}
 use Rattle.hk_table.specs.declared.entries.Entry.TheVariants.{Gone, Cut, Dead, Live}
-use Rattle.hk_layers.specs.Flat.{lead_of, flat_leads, flat_entries, ups_of, halves_of, AreRowsOf}
+use Rattle.hk_layers.specs.Flat.{lead_of, flat_leads, ups_of, halves_of, AreRowsOf}
 use Rattle.hk_layers.specs.Layers.{Half, Mark, is_gone, is_cut, goes_on, row_of_step, judged_by, entry_of_mark, join_onto, joined_up, up_state, up_step_by, up_step_of, up_steps}
 use Rattle.hk_layers.specs.Spots.{PlainSpot, finished_at}
 use Rattle.hk_layers.specs.Transitions.{transitions_of}

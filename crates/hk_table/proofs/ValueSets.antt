@@ -41,7 +41,7 @@ unfolding members
 length-members set fits = let whole : set % 2 ^ 128 ≡ set = omega (arith, fits) in length-members_below set 128 ∙ ap ones whole
 
 -- a set without bits below a number has no value there
-members_below_empty : (set n : ℕ) → ((i : ℕ) → i < n → bit_at set i ≡ 0) → members_below set n ≡ []
+pub members_below_empty : (set n : ℕ) → ((i : ℕ) → i < n → bit_at set i ≡ 0) → members_below set n ≡ []
 members_below_empty set zero none = refl
 members_below_empty set (suc n) none =
     let lacks : (bit_at set n == 1) ≡ false = ne_eqb (bit_at set n) 1 (λ one. let zero_there = none n (omega arith) in omega arith) in

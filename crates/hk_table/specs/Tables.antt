@@ -1,5 +1,5 @@
 -- Tables of a decision diagram: layers of rows, whose entries lead from a row to one of the next layer.
-use Rattle.std.specs.Prelude.{ℕ, ◌==◌, if◌then◌else◌, List, [], ◌∷◌, Option, map}
+use Rattle.std.specs.Prelude.{ℕ, ◌==◌, if◌then◌else◌, List, [], ◌∷◌, ◌++◌, Option, map}
 use Rattle.hk_kinds.specs.declared.kinds.Kind.{Kind}
 use Rattle.hk_kinds.specs.declared.properties.Prop.{Prop}
 use Rattle.hk_table.specs.declared.entries.Entry.{Entry}
@@ -30,6 +30,11 @@ abbrev pub entry_for : List ℕ → List Entry → ℕ → Entry
 entry_for [] entries value = Gone
 entry_for (first ∷ values) [] value = Gone
 entry_for (first ∷ values) (entry ∷ entries) value = if first == value then entry else entry_for values entries value
+
+-- the entries of rows, one row after the other
+abbrev pub flat_entries : List PlainRow → List Entry
+flat_entries [] = []
+flat_entries (row ∷ rows) = row.entries ++ flat_entries rows
 
 -- the entry is Live or Dead, and names this row of the next layer
 pub data NamesRow : Entry → ℕ → Type 0 where

@@ -1,6 +1,7 @@
 //! Sets of rows of one layer.
-ghost use Rattle.std.specs.Prelude.{◌≡◌, ℕ, ◌+◌, ◌*◌, ◌^◌, ◌<◌, ◌↔◌, ◌⊎◌, IsTrue};
+ghost use Rattle.std.specs.Prelude.{◌≡◌, ℕ, [], ◌+◌, ◌*◌, ◌^◌, ◌<◌, ◌↔◌, ◌⊎◌, IsTrue};
 ghost use Rattle.hk_base.specs.Sets.{Has};
+ghost use Rattle.hk_text.specs.Sets.{members_below};
 
 use std::marker::Model;
 
@@ -60,6 +61,34 @@ impl RowSet {
         } else {
             (self.high >> (row - 128)) & 1 == 1
         }
+    }
+
+    /// The same set.
+    #[inline]
+    pub fn copy(&self) -> RowSet
+        ensures { result ≡ self.now }
+    {
+        RowSet {
+            low: self.low,
+            high: self.high,
+        }
+    }
+
+    /// Whether the set has no row.
+    #[inline]
+    pub fn is_empty(&self) -> bool
+        ensures { IsTrue result ↔ (members_below self.now 256 ≡ []) }
+    {
+        self.low == 0 && self.high == 0
+    }
+
+    /// Takes the rows of another set in.
+    #[inline]
+    pub fn unite(&mut self, other: &RowSet)
+        ensures { (row : ℕ) → Has self.new row ↔ (Has self.old row ⊎ Has other.now row) }
+    {
+        self.low |= other.low;
+        self.high |= other.high;
     }
 
     /// Takes a row in, and no other.
