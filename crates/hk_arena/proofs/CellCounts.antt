@@ -100,6 +100,7 @@ small_form shape width makeable =
     let nums : rows * row_nums form ≤ rows * (2 * both) = mul-le-mul_left rows nums_few in
     let bits : rows * row_bits form ≤ rows * (2 + both) = mul-le-mul_left rows bits_few in
     let values : width * sum_by length (take (layer_count form) (layer_values shape)) ≤ width * sum_by length (layer_values shape) = mul-le-mul_left width (sum_by-take-le length (layer_values shape) (layer_count form)) in record {
+      some = makeable.some_width;
       width = makeable.few_rows;
       layers = omega (arith, makeable.few_layers);
       nums = let all = row_place-same (row_nums form) width (layer_count form) 0 in grind arith;

@@ -1,6 +1,7 @@
 pub mod CellCounts
 pub mod Counting
 pub mod Entering
+pub mod EntryReads
 pub mod Fitting
 pub mod Framing
 pub mod FromRows
@@ -13,7 +14,9 @@ pub mod Places
 pub mod PoolSizes
 pub mod Properties
 pub mod RowChanges
+pub mod RowErasing
 pub mod RowWrites
 pub mod SupportSteps
+pub mod WholeRows
 pub mod Writing
 pub mod Zeros

@@ -5,6 +5,7 @@ use Rattle.std.proofs.lemmas.List.{same_lists}
 use Rattle.hk_kinds.specs.declared.kinds.Kind.{Kind}
 use Rattle.hk_kinds.specs.declared.properties.Prop.{Prop}
 use Rattle.hk_table.specs.Tables.{PlainRow}
+use Rattle.hk_table.specs.declared.entries.Entry.{Entry}
 use Rattle.hk_trail.specs.Levels.{Levels}
 use Rattle.hk_trail.specs.Pools.{Content}
 use Rattle.hk_arena.proofs.Fitting.{row_fits}
@@ -14,14 +15,14 @@ use Rattle.hk_arena.proofs.Places.{row_place-apart, nums_within, bits_within}
 use Rattle.hk_arena.proofs.Properties.{state_same}
 use Rattle.hk_arena.proofs.Writing.{AreInside, IsTouched-wider, IsWritten-part, IsWritten-wider, inside_itself, inside_none, inside_part}
 use Rattle.hk_arena.specs.Changes.{with_row, with_down, with_up, with_from}
-use Rattle.hk_arena.specs.Diagrams.{IsRow, row_in}
+use Rattle.hk_arena.specs.inside.Writes.{with_entries, Span, Spans, state_spans, word_spans, row_spans, IsOutside, IsChangedWithin, IsTouched, IsWritten, HasRoom, IsRowWritten}
+use Rattle.hk_arena.specs.Diagrams.{IsRow, row_in, values_of}
 use Rattle.hk_arena.specs.declared.ids.RowId.{RowId}
 use Rattle.hk_arena.specs.Cells.{part, cells_of, entry_of, rest_of, entries_of, rows_in_set, from_of, up_of, row_of, row_at, table_of}
 use Rattle.hk_arena.specs.Forms.{Form, nums_in, sets_in, row_nums, row_bits, row_words, nums_at, bits_at, words_at}
 use Rattle.hk_arena.specs.Kept.{IsKept, IsSmall}
 use Rattle.hk_arena.specs.inside.OneRow.{IsPlace, IsOneRow}
 use Rattle.hk_arena.specs.Properties.{state_at}
-use Rattle.hk_arena.specs.inside.Writes.{Span, Spans, state_spans, word_spans, row_spans, IsOutside, IsChangedWithin, IsTouched, IsWritten, HasRoom, IsRowWritten}
 
 -- ---- other rows
 
@@ -132,6 +133,9 @@ module _ (form : Form) (layer at : ℕ) where
   abbrev pub from_spans : Spans
   from_spans = state_spans 0 0 (bits_at form layer at) 2
 
+  abbrev pub entries_spans : Spans
+  entries_spans = record (word_spans 0) { words = record { first = words_at form layer at + 1; count = length (values_of form.shape layer) } }
+
   -- they are cells of the row
   pub down_inside : AreInside down_spans (row_spans form layer at)
   down_inside =
@@ -147,6 +151,11 @@ module _ (form : Form) (layer at : ℕ) where
   from_inside =
       let row = row_spans form layer at in
       record { nums = inside_none row.nums; bits = inside_part from_spans.bits row.bits (omega arith) (omega arith); words = inside_none row.words }
+
+  pub entries_inside : AreInside entries_spans (row_spans form layer at)
+  entries_inside =
+      let row = row_spans form layer at in
+      record { nums = inside_none row.nums; bits = inside_none row.bits; words = inside_part entries_spans.words row.words (omega arith) (omega arith) }
 
   -- what a row is once one of its parts is written
   pub down_written : (old new : Content) (value : List Prop) → IsTouched down_spans old new → state_at form.shape.down (nums_at form layer at) (bits_at form layer at + 2) new.nums new.bits ≡ value → row_of form (cells_of form new layer at) ≡ with_down value (row_of form (cells_of form old layer at))
@@ -192,6 +201,13 @@ module _ (form : Form) (layer at : ℕ) where
       (up_stays from_spans old new touched (λ over under. omega arith) (λ k above below over under. omega arith) (λ k above below over under. omega arith))
       is
       (entries_stay from_spans old new touched (λ k above below over under. omega arith))
+
+  pub entries_written : (old new : Content) (entries : List Entry) → IsTouched entries_spans old new → entries_of (cells_of form new layer at).words ≡ entries → row_of form (cells_of form new layer at) ≡ with_entries entries (row_of form (cells_of form old layer at))
+  entries_written old new entries touched are = same_row (row_of form (cells_of form new layer at)) (with_entries entries (row_of form (cells_of form old layer at)))
+      (down_stays entries_spans old new touched (λ k below over under. omega arith) (λ k above below over under. omega arith))
+      (up_stays entries_spans old new touched (λ over under. omega arith) (λ k above below over under. omega arith) (λ k above below over under. omega arith))
+      (from_stays entries_spans old new touched (λ k below over under. omega arith))
+      are
 
 -- ---- the table
 

@@ -46,7 +46,7 @@ entries_of words = map entry_of (rest_of words)
 unfoldable pub rows_in_set : ℕ → List ℕ
 rows_in_set set = members_below set 256
 
--- the rows that a row comes from, as two halves of a set
+-- the rows that a row comes from: those of the set whose two halves these are
 abbrev pub from_of : List ℕ → List ℕ
 from_of bits = rows_in_set (slice_index_or bits 1 0 * 2 ^ 128 + slice_index_or bits 0 0)
 

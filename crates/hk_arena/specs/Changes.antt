@@ -34,6 +34,10 @@ with_up state row = record row { up = state }
 abbrev pub with_from : List ℕ → PlainRow → PlainRow
 with_from rows row = record row { from = rows }
 
+-- the row that has these parts
+abbrev pub row_made : List Prop → Option (List Prop) → List ℕ → List Entry → PlainRow
+row_made down up from entries = record { down = down; up = up; from = from; entries = entries }
+
 -- a table is another one but for one row, which is any that fits
 pub record IsRowChanged (shape : PlainShape) (row : RowId) (old new : List (List PlainRow)) : Type 0 where
   pub now : PlainRow
@@ -53,10 +57,18 @@ pub record IsAddedRow (shape : PlainShape) (layer : ℕ) (row : PlainRow) : Type
   pub fits : RowFits shape.down shape.up (values_of shape layer) row
   pub empty : IsEmptyRow row
 
--- a layer has so many rows: those that were there are as they were, and those that were not are added
+-- a layer has so many rows: the first so many of those that were there are as they were, and those that were not there
+-- fit and have Gone entries alone; other layers stay
 pub record IsResized (shape : PlainShape) (layer rows : ℕ) (old new : List (List PlainRow)) : Type 0 where
   pub layers : length new ≡ length old
   pub others : (other : ℕ) → other ≢ layer → rows_of new other ≡ rows_of old other
   pub count : length (rows_of new layer) ≡ rows
   pub stay : (row : RowId) → row.layer ≡ layer → row.at < rows → row.at < length (rows_of old layer) → row_in new row ≡ row_in old row
   pub added : (row : RowId) → row.layer ≡ layer → row.at < rows → length (rows_of old layer) ≤ row.at → IsAddedRow shape layer (row_in new row)
+
+-- a table is another one but for the rows of a layer from this one on, and this layer has as many rows as before
+pub record IsChangedFrom (layer rows : ℕ) (old new : List (List PlainRow)) : Type 0 where
+  pub layers : length new ≡ length old
+  pub others : (other : ℕ) → other ≢ layer → rows_of new other ≡ rows_of old other
+  pub count : length (rows_of new layer) ≡ length (rows_of old layer)
+  pub stay : (row : RowId) → row.layer ≡ layer → row.at < rows → row_in new row ≡ row_in old row

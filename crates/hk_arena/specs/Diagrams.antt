@@ -5,7 +5,7 @@ use Rattle.hk_arena.specs.declared.ids.RowId.{RowId}
 use Rattle.hk_arena.specs.declared.ids.EntryId.{EntryId}
 
 -- a diagram: its table, and the tables at the open pushes, the latest first; what it was made for, and how many rows a
--- layer has at most; and for each open push how many cells were written while it was the highest
+-- layer has at most; and for each open push how many distinct cells were written while it was the highest
 pub record DiagramLevels : Type 0 where
   pub table : List (List PlainRow)
   pub stack : List (List (List PlainRow))

@@ -18,8 +18,10 @@ pub record IsKept (form : Form) (content : Content) : Type 0 where
   pub counts : (layer : ℕ) → layer < layer_count form → row_count content layer ≤ form.width
   pub empty : (layer at : ℕ) → layer < layer_count form → row_count content layer ≤ at → at < form.width → All (λ entry. entry ≡ Gone) (entries_of (cells_of form content layer at).words)
 
--- the form takes fewer cells than a pool can have
+-- the width is 1 to 256, there are at most 257 layers with the last, and the form takes fewer cells than a
+-- pool can have
 pub record IsSmall (form : Form) : Type 0 where
+  pub some : 0 < form.width
   pub width : form.width ≤ 256
   pub layers : layer_count form ≤ 257
   pub nums : num_count form < 2 ^ 32

@@ -5,7 +5,7 @@ use Rattle.hk_arena.specs.Cells.{listed}
 use Rattle.hk_arena.specs.Forms.{Form, layer_count, nums_in, sets_in, row_nums, row_bits, words_at}
 use Rattle.hk_arena.specs.Kept.{IsSmall}
 
--- these are the sizes of a row, where its up state begins, and for each layer how many values it has and where its words
+-- the form is small, and these are the sizes of a row, where its up state begins, and for each layer how many values it has and where its words
 -- begin
 pub record IsLayout (form : Form) (nums bits up_num up_set : ℕ) (values words : List ℕ) : Type 0 where
   pub small : IsSmall form

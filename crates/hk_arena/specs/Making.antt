@@ -3,8 +3,8 @@ use Rattle.std.specs.Prelude.{ℕ, ◌+◌, ◌*◌, ◌<◌, ◌≤◌, List, l
 use Rattle.std.specs.List.{sum_by}
 use Rattle.hk_table.specs.Tables.{PlainShape, layer_values}
 
--- there are 1 to 256 layers with values, and 1 to 256 rows a layer; each layer but the last has a value; the entries of
--- all rows are at most a million, and the properties of all states at most eight million
+-- the width is 1 to 256; there are 1 to 256 layers besides the last, and each of them has a value; the entries of all
+-- rows are at most a million, and the properties of all states at most eight million
 pub record IsMakeable (shape : PlainShape) (width : ℕ) : Type 0 where
   pub some_width : 0 < width
   pub few_rows : width ≤ 256

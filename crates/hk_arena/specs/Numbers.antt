@@ -1,4 +1,4 @@
--- How many cells a level wrote, and how much a call adds.
+-- How many distinct cells a level wrote, and how much a call adds.
 use Rattle.std.specs.Prelude.{◌≡◌, ℕ, ◌+◌, ◌≤◌, List}
 use Rattle.hk_trail.specs.Places.{on_highest}
 

@@ -1,3 +1,4 @@
+pub mod LayerWrites
 pub mod OneRow
 pub mod Openings
 pub mod Writes

@@ -1,5 +1,5 @@
 //! Writes of one cell of a store.
-ghost use Rattle.std.specs.Prelude.{◌≡◌, ◌<◌, length, pos, slice_index_or, OnOk};
+ghost use Rattle.std.specs.Prelude.{◌≡◌, ◌+◌, ◌<◌, ◌≤◌, length, pos, slice_index_or, OnOk};
 ghost use Rattle.hk_kinds.specs.Limits.{IsWithinLimit};
 ghost use Rattle.hk_kinds.specs.Sets.{IsSet};
 ghost use Rattle.hk_arena.specs.inside.Writes.{IsWritten, state_spans, word_spans};
@@ -21,6 +21,7 @@ pub(crate) fn write_num<L: Ledger>(
     requires limit { IsWithinLimit value }
     ensures ok { OnOk result (slice_index_or store.new.content.nums at (pos 0) ≡ value) }
     ensures written { IsWritten (state_spans at 1 0 0) 1 store.old store.new }
+    ensures ticks { steps.new ≤ steps.old + 1 }
 {
     store.set_num(store.num_id(at), value, steps)
 }
@@ -37,6 +38,7 @@ pub(crate) fn write_set<L: Ledger>(
     requires set { IsSet value }
     ensures ok { OnOk result (slice_index_or store.new.content.bits at 0 ≡ value) }
     ensures written { IsWritten (state_spans 0 0 at 1) 1 store.old store.new }
+    ensures ticks { steps.new ≤ steps.old + 1 }
 {
     store.set_bits(store.bits_id(at), value, steps)
 }
@@ -52,6 +54,7 @@ pub(crate) fn write_word<L: Ledger>(
     requires { at < length store.old.content.words }
     ensures ok { OnOk result (slice_index_or store.new.content.words at 0 ≡ value) }
     ensures written { IsWritten (word_spans at) 1 store.old store.new }
+    ensures ticks { steps.new ≤ steps.old + 1 }
 {
     store.set_word(store.word_id(at), value, steps)
 }

@@ -4,9 +4,11 @@ ghost use Rattle.std.specs.List.{Contains};
 ghost use Rattle.hk_base.specs.Sets.{Has};
 ghost use Rattle.hk_kinds.specs.Shapes.{HasShape};
 ghost use Rattle.hk_table.specs.Fits.{Fits};
+ghost use Rattle.hk_text.specs.Sets.{members_below};
 ghost use Rattle.hk_table.specs.Keeps.{Supports};
 ghost use Rattle.hk_table.specs.Opening.{opening_table};
-ghost use Rattle.hk_arena.specs.Changes.{AreEmptyFrom, IsResized, IsRowChanged, with_row, with_entry, with_down, with_up, with_from};
+ghost use Rattle.hk_table.specs.Tables.{flat_entries};
+ghost use Rattle.hk_arena.specs.Changes.{AreEmptyFrom, IsChangedFrom, IsResized, IsRowChanged, row_made, with_row, with_entry, with_down, with_up, with_from};
 ghost use Rattle.hk_arena.specs.Diagrams.{IsEntry, IsRow, row_in, rows_of, values_of};
 ghost use Rattle.hk_arena.specs.Making.{IsMakeable};
 ghost use Rattle.hk_arena.specs.Numbers.{IsRaised};
@@ -18,12 +20,15 @@ use crate::from::{is_from, write_from};
 use crate::ids::{EntryId, RowId};
 use crate::layout::Layout;
 use crate::opening::opened;
+use crate::reading::read_entries;
+use crate::resizing::resize_layer;
 use crate::row_states::{erase_up, read_down, read_up, write_down, write_up};
 use crate::rows::{read_rows, write_rows};
 use crate::support::support;
+use crate::whole_rows::write_row;
 use hk_cells::Steps;
-use hk_kinds::State;
-use hk_table::{Entry, Shape};
+use hk_kinds::{State, StateView};
+use hk_table::{Entry, RowSet, Shape};
 use hk_trail::Store;
 use std::alloc::{AllocError, Global};
 use std::marker::Model;
@@ -32,8 +37,8 @@ use std::sync::ledger::Ledger;
 /// A layered diagram in a store of its own.
 ///
 /// Contracts see a table and a stack of tables, those at the open pushes; the shape and the width that
-/// it was made for, which no call changes; and for each open push how many cells were written while it
-/// was the highest. It may be moved to a worker, and lent to one.
+/// it was made for, which no call changes; and for each open push how many distinct cells were written
+/// while it was the highest.
 #[derive(Drop)]
 pub struct Diagram {
     store: Store,
@@ -54,7 +59,7 @@ impl Model for Diagram {
 
 impl Diagram {
     /// A diagram that holds the opening table of a shape, with room for so many rows a layer. All cells
-    /// are taken here, and no other call takes any.
+    /// are taken here.
     pub fn make(alloc: Global, shape: &Shape, width: u16) -> Result<Diagram, AllocError>
         requires { IsMakeable shape.now width }
         ensures table { IfOk result (λ diagram. diagram.table ≡ opening_table shape.now) }
@@ -78,8 +83,18 @@ impl Diagram {
         self.layout.layers()
     }
 
+    /// The set of a layer's values.
+    #[inline]
+    pub fn domain(&self, layer: u16) -> u128
+        requires { layer < length self.now.shape.domains }
+        ensures { result ≡ slice_index self.now.shape.domains layer }
+    {
+        self.layout.domain(layer)
+    }
+
     /// How many values a layer has.
-    pub(crate) fn values(&self, layer: u16) -> u16
+    #[inline]
+    pub fn values(&self, layer: u16) -> u16
         requires { layer ≤ length self.now.shape.domains }
         ensures { result ≡ length (values_of self.now.shape layer) }
     {
@@ -122,6 +137,15 @@ impl Diagram {
         read_entry(&self.store, &self.layout, id)
     }
 
+    /// Writes the entries of all rows of a layer, one row after the other. What `to` holds before is taken
+    /// out.
+    pub fn entries_into(&self, layer: u16, to: &mut Vec<Entry>) -> Result<(), AllocError>
+        requires { layer < length self.now.shape.domains }
+        ensures { OnOk result (to.new.items ≡ flat_entries (rows_of self.now.table layer)) }
+    {
+        read_entries(&self.store, &self.layout, layer, to)
+    }
+
     /// Makes an entry another one. Where memory is refused nothing changes.
     #[inline]
     pub fn set_entry<L: Ledger>(
@@ -133,6 +157,7 @@ impl Diagram {
         requires { IsEntry self.old.shape self.old.table id }
         ensures ok { OnOk result (self.new ≡ record self.old { table = with_row id.row (with_entry id.at value) self.old.table; numbers = self.new.numbers }) }
         ensures raised { IsRaised 1 self.old.numbers self.new.numbers }
+        ensures ticks { steps.new ≤ steps.old + 1 }
         ensures refused { OnErr result (self.new ≡ self.old) }
     {
         write_entry(&mut self.store, &self.layout, id, value, steps)?;
@@ -154,9 +179,31 @@ impl Diagram {
         ensures ok { OnOk result (IsResized self.old.shape layer rows self.old.table self.new.table) }
         ensures others { self.new ≡ record self.old { table = self.new.table; numbers = self.new.numbers } }
         ensures raised { IsRaised 1 self.old.numbers self.new.numbers }
+        ensures ticks { steps.new ≤ steps.old + 1 }
         ensures refused { OnErr result (self.new ≡ self.old) }
     {
         write_rows(&mut self.store, &self.layout, layer, rows, steps)?;
+        Ok(())
+    }
+
+    /// Gives a layer so many rows: the first ones stay as they were, and those that are added have Gone
+    /// entries alone. Where memory is refused each layer has as many rows as before, and only those of this
+    /// layer from the new number on may have changed. As every table of a diagram it fits: `fits`.
+    pub fn resize<L: Ledger>(
+        &mut self,
+        layer: u16,
+        rows: u16,
+        steps: &mut Steps<L>,
+    ) -> Result<(), AllocError>
+        requires layer { layer ≤ length self.old.shape.domains }
+        requires width { rows ≤ self.old.width }
+        ensures ok { OnOk result (IsResized self.old.shape layer rows self.old.table self.new.table) }
+        ensures refused { OnErr result (IsChangedFrom layer rows self.old.table self.new.table) }
+        ensures others { self.new ≡ record self.old { table = self.new.table; numbers = self.new.numbers } }
+        ensures raised { IsRaised (1 + self.old.width * length (values_of self.old.shape layer)) self.old.numbers self.new.numbers }
+        ensures ticks { steps.new ≤ steps.old + (1 + self.old.width * length (values_of self.old.shape layer)) }
+    {
+        resize_layer(&mut self.store, &self.layout, layer, rows, steps)?;
         Ok(())
     }
 
@@ -204,6 +251,7 @@ impl Diagram {
         ensures changed { IsRowChanged self.old.shape row self.old.table self.new.table }
         ensures others { self.new ≡ record self.old { table = self.new.table; numbers = self.new.numbers } }
         ensures raised { IsRaised (2 * length value.now) self.old.numbers self.new.numbers }
+        ensures ticks { steps.new ≤ steps.old + 2 * length value.now }
     {
         write_down(&mut self.store, &self.layout, row, &value.view(), steps)?;
         Ok(())
@@ -223,6 +271,7 @@ impl Diagram {
         ensures changed { IsRowChanged self.old.shape row self.old.table self.new.table }
         ensures others { self.new ≡ record self.old { table = self.new.table; numbers = self.new.numbers } }
         ensures raised { MatchOption value.entry (IsRaised 1 self.old.numbers self.new.numbers) (λ state. IsRaised (1 + 2 * length state.now) self.old.numbers self.new.numbers) }
+        ensures ticks { MatchOption value.entry (steps.new ≤ steps.old + 1) (λ state. steps.new ≤ steps.old + (1 + 2 * length state.now)) }
     {
         match value {
             Some(state) => write_up(&mut self.store, &self.layout, row, &state.view(), steps)?,
@@ -247,8 +296,43 @@ impl Diagram {
         ensures changed { IsRowChanged self.old.shape row self.old.table self.new.table }
         ensures others { self.new ≡ record self.old { table = self.new.table; numbers = self.new.numbers } }
         ensures raised { IsRaised 2 self.old.numbers self.new.numbers }
+        ensures ticks { steps.new ≤ steps.old + 2 }
     {
         write_from(&mut self.store, &self.layout, row, old, steps)?;
+        Ok(())
+    }
+
+    /// Writes all parts of a row at once. Where memory is refused the row is any that fits, and all
+    /// others are as they were.
+    pub fn set_row<L: Ledger>(
+        &mut self,
+        row: RowId,
+        down: &StateView<'_>,
+        up: Option<StateView<'_>>,
+        from: &RowSet,
+        entries: &[Entry],
+        steps: &mut Steps<L>,
+    ) -> Result<(), AllocError>
+        requires row { IsRow self.old.table row }
+        requires down { HasShape self.old.shape.down down.now }
+        requires up { IfSome up (HasShape self.old.shape.up) }
+        requires entries { length entries.now ≡ length (values_of self.old.shape row.layer) }
+        ensures ok { OnOk result (self.new.table ≡ with_row row (λ old. row_made down.now up.entry (members_below from.now 256) entries.now) self.old.table) }
+        ensures changed { IsRowChanged self.old.shape row self.old.table self.new.table }
+        ensures others { self.new ≡ record self.old { table = self.new.table; numbers = self.new.numbers } }
+        ensures raised { IsRaised (3 + 2 * length self.old.shape.down + 2 * length self.old.shape.up + length entries.now) self.old.numbers self.new.numbers }
+        ensures ticks { steps.new ≤ steps.old + (3 + 2 * length self.old.shape.down + 2 * length self.old.shape.up + length entries.now) }
+    {
+        write_row(
+            &mut self.store,
+            &self.layout,
+            row,
+            down,
+            up,
+            from,
+            entries,
+            steps,
+        )?;
         Ok(())
     }
 
@@ -263,17 +347,20 @@ impl Diagram {
         support(&self.store, &self.layout, out);
     }
 
-    /// What callers may rely on: the table fits the shape, and no layer has more rows than the width.
+    /// What callers may rely on: the table fits the shape, no layer has more rows than the width, which is
+    /// 1 to 256, and at most 256 layers have values.
     #[inline]
     pub fn fits(&self)
         ensures fits { Fits self.now.shape self.now.table }
         ensures few { (layer : ℕ) → length (rows_of self.now.table layer) ≤ self.now.width }
+        ensures some { 0 < self.now.width }
         ensures width { self.now.width ≤ 256 }
+        ensures few_layers { length self.now.shape.domains ≤ 256 }
     {
         self.layout.know();
     }
 
-    /// Opens a level: saves the table, and copies none of it. Where memory is refused nothing changes.
+    /// Opens a level: saves the table. Where memory is refused nothing changes.
     pub fn push(&mut self) -> Result<(), AllocError>
         requires { length self.old.stack + 1 < 2 ^ 32 }
         ensures ok { OnOk result (self.new ≡ record self.old { stack = self.old.table ∷ self.old.stack; numbers = 0 ∷ self.old.numbers }) }

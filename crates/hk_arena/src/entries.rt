@@ -1,5 +1,5 @@
 //! Entries in words: what an entry is by the remainder by 4, and the row that it names by the quotient.
-ghost use Rattle.std.specs.Prelude.{◌≡◌, ℕ, length, map, slice_index_or, OnOk, OnErr};
+ghost use Rattle.std.specs.Prelude.{◌≡◌, ℕ, ◌+◌, ◌≤◌, length, map, slice_index_or, OnOk, OnErr};
 ghost use Rattle.hk_trail.specs.Places.{cell_count};
 ghost use Rattle.hk_arena.specs.Changes.{with_row, with_entry};
 ghost use Rattle.hk_arena.specs.Diagrams.{IsEntry, row_in};
@@ -18,7 +18,7 @@ use std::sync::ledger::Ledger;
 /// The entry that a word holds.
 #[inline]
 #[tactic(auto, unfolding(crate::specs::Cells::entry_of))]
-fn entry_of(word: u32) -> Entry
+pub(crate) fn entry_of(word: u32) -> Entry
     ensures { result ≡ entry_of word }
 {
     let row = (word / 4 % 65536) as u16;
@@ -33,7 +33,7 @@ fn entry_of(word: u32) -> Entry
 /// A word that holds an entry.
 #[inline]
 #[tactic(auto, unfolding(crate::specs::Cells::entry_of))]
-fn word_of(entry: Entry) -> u32
+pub(crate) fn word_of(entry: Entry) -> u32
     ensures { entry_of result ≡ entry }
 {
     match entry {
@@ -70,6 +70,7 @@ pub(crate) fn write_entry<L: Ledger>(
     ensures table { OnOk result (table_of layout.now store.new.content ≡ with_row id.row (with_entry id.at value) (table_of layout.now store.old.content)) }
     ensures stack { store.new.stack ≡ store.old.stack }
     ensures raised { IsRaised 1 (map cell_count store.old.written) (map cell_count store.new.written) }
+    ensures ticks { steps.new ≤ steps.old + 1 }
     ensures refused { OnErr result (store.new ≡ store.old) }
 {
     let word = store.word_id(layout.entry_word(id));

@@ -1,5 +1,5 @@
 //! The rows that a row comes from: a set of rows, whose two halves are cells of a store.
-ghost use Rattle.std.specs.Prelude.{◌≡◌, ℕ, ◌+◌, ◌<◌, ◌↔◌, length, slice_index, IsTrue, OnOk, All};
+ghost use Rattle.std.specs.Prelude.{◌≡◌, ℕ, ◌+◌, ◌<◌, ◌≤◌, ◌↔◌, length, slice_index, IsTrue, OnOk, All};
 ghost use Rattle.std.specs.List.{Contains};
 ghost use Rattle.hk_base.specs.Sets.{Has};
 ghost use Rattle.hk_arena.specs.Changes.{with_row, with_from};
@@ -54,6 +54,26 @@ pub(crate) fn is_from(store: &Store, layout: &Layout, row: RowId, old: u16) -> b
     read_from(store, layout, row).has(old)
 }
 
+/// Writes the rows that a row of the table that cells hold comes from: those of a set.
+pub(crate) fn write_from_set<L: Ledger>(
+    store: &mut Store,
+    layout: &Layout,
+    row: RowId,
+    set: &RowSet,
+    steps: &mut Steps<L>,
+) -> Result<(), AllocError>
+    requires kept { IsKept layout.now store.old.content }
+    requires row { IsRow (table_of layout.now store.old.content) row }
+    ensures ok { OnOk result (table_of layout.now store.new.content ≡ with_row row (with_from (rows_in_set set.now)) (table_of layout.now store.old.content)) }
+    ensures written { IsRowWritten layout.now row 2 store.old store.new }
+    ensures ticks { steps.new ≤ steps.old + 2 }
+{
+    let (low, high) = set.halves();
+    let first = layout.first_bits(row.layer, row.at);
+    write_set(store, first, low, steps)?;
+    write_set(store, first + 1, high, steps)
+}
+
 /// Writes the rows that a row of the table that cells hold comes from.
 pub(crate) fn write_from<L: Ledger>(
     store: &mut Store,
@@ -68,10 +88,8 @@ pub(crate) fn write_from<L: Ledger>(
     requires within { All (λ from. from < layout.now.width) old.now }
     ensures ok { OnOk result (table_of layout.now store.new.content ≡ with_row row (with_from old.now) (table_of layout.now store.old.content)) }
     ensures written { IsRowWritten layout.now row 2 store.old store.new }
+    ensures ticks { steps.new ≤ steps.old + 2 }
 {
     layout.know();
-    let (low, high) = row_set(old).halves();
-    let first = layout.first_bits(row.layer, row.at);
-    write_set(store, first, low, steps)?;
-    write_set(store, first + 1, high, steps)
+    write_from_set(store, layout, row, &row_set(old), steps)
 }

@@ -1,5 +1,5 @@
 //! Where the cells of a diagram lie.
-ghost use Rattle.std.specs.Prelude.{◌≡◌, ◌+◌, ◌<◌, ◌^◌, length, IfOk};
+ghost use Rattle.std.specs.Prelude.{◌≡◌, ◌+◌, ◌<◌, ◌^◌, length, slice_index, IfOk};
 ghost use Rattle.hk_arena.specs.Diagrams.{values_of};
 ghost use Rattle.hk_text.specs.Sets.{members};
 ghost use Rattle.hk_arena.specs.Making.{IsMakeable};
@@ -145,7 +145,8 @@ impl Layout {
     #[inline]
     pub fn domain(&self, layer: u16) -> u128
         requires { layer < length self.now.shape.domains }
-        ensures { members result ≡ values_of self.now.shape layer }
+        ensures set { result ≡ slice_index self.now.shape.domains layer }
+        ensures values { members result ≡ values_of self.now.shape layer }
     {
         self.domains()[layer as usize]
     }

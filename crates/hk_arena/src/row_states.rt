@@ -1,5 +1,5 @@
 //! The states of rows, in the cells of a store.
-ghost use Rattle.std.specs.Prelude.{◌≡◌, ◌+◌, ◌*◌, None, Some, length, IsTrue, IsFalse, OnOk};
+ghost use Rattle.std.specs.Prelude.{◌≡◌, ◌+◌, ◌*◌, ◌≤◌, None, Some, length, IsTrue, IsFalse, OnOk};
 ghost use Rattle.hk_kinds.specs.Shapes.{HasShape};
 ghost use Rattle.hk_arena.specs.Changes.{with_row, with_down, with_up};
 ghost use Rattle.hk_arena.specs.Diagrams.{IsRow, row_in};
@@ -64,6 +64,7 @@ pub(crate) fn write_down<L: Ledger>(
     requires shape { HasShape layout.now.shape.down value.now }
     ensures ok { OnOk result (table_of layout.now store.new.content ≡ with_row row (with_down value.now) (table_of layout.now store.old.content)) }
     ensures written { IsRowWritten layout.now row (2 * length value.now) store.old store.new }
+    ensures ticks { steps.new ≤ steps.old + 2 * length value.now }
 {
     layout.know();
     let num = layout.first_num(row.layer, row.at);
@@ -84,6 +85,7 @@ pub(crate) fn write_up<L: Ledger>(
     requires shape { HasShape layout.now.shape.up value.now }
     ensures ok { OnOk result (table_of layout.now store.new.content ≡ with_row row (with_up (Some value.now)) (table_of layout.now store.old.content)) }
     ensures written { IsRowWritten layout.now row (1 + 2 * length value.now) store.old store.new }
+    ensures ticks { steps.new ≤ steps.old + (1 + 2 * length value.now) }
 {
     layout.know();
     let num = layout.first_num(row.layer, row.at) + layout.up_num();
@@ -103,6 +105,7 @@ pub(crate) fn erase_up<L: Ledger>(
     requires row { IsRow (table_of layout.now store.old.content) row }
     ensures ok { OnOk result (table_of layout.now store.new.content ≡ with_row row (with_up None) (table_of layout.now store.old.content)) }
     ensures written { IsRowWritten layout.now row 1 store.old store.new }
+    ensures ticks { steps.new ≤ steps.old + 1 }
 {
     write_word(store, layout.first_word(row.layer, row.at), 0, steps)
 }

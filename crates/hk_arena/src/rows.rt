@@ -1,5 +1,5 @@
 //! How many rows each layer has.
-ghost use Rattle.std.specs.Prelude.{◌≡◌, ℕ, ◌<◌, ◌≤◌, length, map, OnOk, OnErr};
+ghost use Rattle.std.specs.Prelude.{◌≡◌, ℕ, ◌+◌, ◌<◌, ◌≤◌, length, map, OnOk, OnErr};
 ghost use Rattle.hk_trail.specs.Places.{cell_count};
 ghost use Rattle.hk_arena.specs.Changes.{AreEmptyFrom, IsResized};
 ghost use Rattle.hk_arena.specs.Diagrams.{rows_of};
@@ -43,6 +43,7 @@ pub(crate) fn write_rows<L: Ledger>(
     ensures table { OnOk result (IsResized layout.now.shape layer rows (table_of layout.now store.old.content) (table_of layout.now store.new.content)) }
     ensures stack { store.new.stack ≡ store.old.stack }
     ensures raised { IsRaised 1 (map cell_count store.old.written) (map cell_count store.new.written) }
+    ensures ticks { steps.new ≤ steps.old + 1 }
     ensures refused { OnErr result (store.new ≡ store.old) }
 {
     let word = store.word_id(layer as u32);

@@ -1,5 +1,5 @@
 //! States in cells of a store: the numbers of a state lie one after the other, and so do its sets.
-ghost use Rattle.std.specs.Prelude.{◌≡◌, ◌+◌, ◌*◌, ◌<◌, ◌^◌, length, pos, slice_index_or, OnOk};
+ghost use Rattle.std.specs.Prelude.{◌≡◌, ◌+◌, ◌*◌, ◌<◌, ◌≤◌, ◌^◌, length, pos, slice_index_or, OnOk};
 ghost use Rattle.hk_kinds.specs.Limits.{IsWithinLimit};
 ghost use Rattle.hk_kinds.specs.Shapes.{HasShape, IsOfKind};
 ghost use Rattle.hk_kinds.specs.declared.properties.Prop.TheVariants.{Num};
@@ -30,6 +30,7 @@ fn write_pair<L: Ledger>(
     ensures low { OnOk result (slice_index_or store.new.content.nums at (pos 0) ≡ low) }
     ensures high { OnOk result (slice_index_or store.new.content.nums (at + 1) (pos 0) ≡ high) }
     ensures written { IsWritten (state_spans at 2 0 0) 2 store.old store.new }
+    ensures ticks { steps.new ≤ steps.old + 2 }
 {
     write_num(store, at, low, steps)?;
     write_num(store, at + 1, high, steps)?;
@@ -52,6 +53,7 @@ fn write_property<L: Ledger>(
     requires kind { IsOfKind kind (slice_index_or value.now at (Num (pos 0))) }
     ensures ok { OnOk result (property_at kind num set store.new.content.nums store.new.content.bits ≡ slice_index_or value.now at (Num (pos 0))) }
     ensures written { IsWritten (state_spans num (kind_nums kind) set (kind_sets kind)) 2 store.old store.new }
+    ensures ticks { steps.new ≤ steps.old + 2 }
 {
     match kind {
         Kind::Min | Kind::Max => write_num(store, num, value.number(at), steps),
@@ -96,6 +98,7 @@ pub(crate) fn write_state<L: Ledger>(
     requires shape { HasShape kinds.now value.now }
     ensures ok { OnOk result (state_at kinds.now first_num first_set store.new.content.nums store.new.content.bits ≡ value.now) }
     ensures written { IsWritten (state_spans first_num (nums_in kinds.now) first_set (sets_in kinds.now)) (2 * length value.now) store.old store.new }
+    ensures ticks { steps.new ≤ steps.old + 2 * length value.now }
 {
     let mut num = first_num;
     let mut set = first_set;

@@ -7,6 +7,8 @@ use Rattle.hk_trail.specs.Places.{cell_count}
 use Rattle.hk_trail.specs.Pools.{Content, Pools}
 use Rattle.hk_arena.specs.Changes.{IsRowChanged}
 use Rattle.hk_arena.specs.Numbers.{IsRaised}
+use Rattle.hk_table.specs.Tables.{PlainRow}
+use Rattle.hk_table.specs.declared.entries.Entry.{Entry}
 use Rattle.hk_arena.specs.declared.ids.RowId.{RowId}
 use Rattle.hk_arena.specs.Cells.{table_of}
 use Rattle.hk_arena.specs.Forms.{Form, row_nums, row_bits, row_words, nums_at, bits_at, words_at}
@@ -78,3 +80,7 @@ pub record IsRowWritten (form : Form) (row : RowId) (most : ℕ) (old new : Leve
   pub changed : IsRowChanged form.shape row (table_of form old.content) (table_of form new.content)
   pub stack : new.stack ≡ old.stack
   pub raised : IsRaised most (map cell_count old.written) (map cell_count new.written)
+
+-- a row with other entries
+abbrev pub with_entries : List Entry → PlainRow → PlainRow
+with_entries entries row = record row { entries = entries }

@@ -53,6 +53,7 @@ loop-at-preserved g c =
       done = state_written kinds c.args.value.now l.at c.args.first_num c.args.first_set l.num l.set l.store.content new.content c.requires.shape c.loop-at-test.true l.invariant.nums l.invariant.sets c.write_property.ensures.written.touched c.in_ok-write_property.ensures.ok l.invariant.done;
       written = IsWritten-part (state_spans l.num (kind_nums kind) l.set (kind_sets kind)) (state_spans c.args.first_num (nums_in kinds) c.args.first_set (sets_in kinds)) (2 * l.at) 2 (2 * (l.at + 1)) c.args.store.now l.store new
           (property_inside kinds l.at c.args.first_num c.args.first_set l.num l.set c.loop-at-test.true l.invariant.nums l.invariant.sets) (omega arith) l.invariant.written c.write_property.ensures.written;
+      ticks = omega (arith, l.invariant.ticks, c.write_property.ensures.ticks);
     }
 
 pub returns-clause-ok : goal.returns-clause-ok
@@ -70,3 +71,13 @@ returns-clause-written g c =
     let long = length-shape c.requires.shape in
     let end = l.auto.at-end in
     IsWritten-within (state_spans c.args.first_num (nums_in kinds) c.args.first_set (sets_in kinds)) (2 * l.at) (2 * length c.args.value.now) c.args.store.now l.store (omega arith) l.invariant.written
+
+pub returns-in_err-write_property-clause-ticks : goal.returns-in_err-write_property-clause-ticks
+returns-in_err-write_property-clause-ticks g c =
+    let long = length-shape c.requires.shape in
+    omega (arith, c.loop-at.invariant.ticks, c.write_property.ensures.ticks)
+
+pub returns-clause-ticks : goal.returns-clause-ticks
+returns-clause-ticks g c =
+    let long = length-shape c.requires.shape in
+    omega (arith, c.loop-at.invariant.ticks, c.loop-at.auto.at-end)

@@ -1,4 +1,4 @@
-use Rattle.std.proofs.Common.{◌≡◌, ◌+◌, ◌*◌, take}
+use Rattle.std.proofs.Common.{◌≡◌, ◌+◌, ◌*◌, ◌≤◌, take}
 use Rattle.hk_arena.specs.Forms.{nums_in, sets_in}
 use Rattle.hk_arena.specs.Properties.{state_at}
 use Rattle.hk_arena.specs.inside.Writes.{IsWritten, state_spans}
@@ -11,4 +11,5 @@ invariant-loop-at g l = record {
   sets : l.set ≡ l.first_set + sets_in (take l.at l.kinds);
   done : state_at (take l.at l.kinds) l.first_num l.first_set l.store.content.nums l.store.content.bits ≡ take l.at l.value;
   written : IsWritten (state_spans l.first_num (nums_in l.kinds) l.first_set (sets_in l.kinds)) (2 * l.at) l.initial.store l.store;
+  ticks : l.steps ≤ l.initial.steps + 2 * l.at;
 }

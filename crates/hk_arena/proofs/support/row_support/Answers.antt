@@ -19,8 +19,8 @@ loop-at-init c =
     let entries = (row_in (table_of form content) row).entries in
     let found = c.args.found.now in
     let whole = EntryLeads (values_of form.shape row.layer) entries in record {
-      long = row_long form content row c.requires.kept c.requires.row ∙ sym (ap length c.domain-left.ensures);
-      steps = subst (λ values. SameSteps whole (EntryLeads values entries) found.values found.rows found.values found.rows) (sym c.domain-left.ensures) (SameSteps-refl whole found.values found.rows);
+      long = row_long form content row c.requires.kept c.requires.row ∙ sym (ap length c.domain-left.ensures.values);
+      steps = subst (λ values. SameSteps whole (EntryLeads values entries) found.values found.rows found.values found.rows) (sym c.domain-left.ensures.values) (SameSteps-refl whole found.values found.rows);
     }
 
 pub split_least-value-requires : goal.split_least-value-requires

@@ -1,0 +1,14 @@
+use Rattle.std.proofs.Common.{◌+◌, ◌≤◌, []}
+use Rattle.hk_arena.proofs.RowWrites.{entries_spans}
+use Rattle.hk_arena.proofs.WholeRows.{HoldEntries}
+use Rattle.hk_arena.specs.Forms.{words_at}
+use Rattle.hk_arena.specs.inside.Writes.{IsWritten}
+use Rattle.hk_arena.proofs.resizing.erase_entries.Given as goal
+
+-- the words up to here hold Gone, and no others were written
+abbrev pub invariant-loop-at : goal.invariant-loop-at
+invariant-loop-at g l = record {
+  held : HoldEntries (words_at l.layout l.fn.row.layer l.fn.row.at + 1) [] l.at l.store.content.words;
+  written : IsWritten (entries_spans l.layout l.fn.row.layer l.fn.row.at) l.at l.initial.store l.store;
+  ticks : l.steps ≤ l.initial.steps + l.at;
+}
