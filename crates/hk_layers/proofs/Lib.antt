@@ -1,4 +1,16 @@
+pub mod Candidates
+pub mod FlatMarks
 pub mod FlatUps
+pub mod FrontLists
+pub mod MarkLists
+pub mod MarkedSteps
+pub mod NextRows
+pub mod Places
 pub mod Risings
+pub mod RowMarks
+pub mod SameJoins
 pub mod Shares
+pub mod StepRows
+pub mod Targets
+pub mod Unions
 pub mod UpLists

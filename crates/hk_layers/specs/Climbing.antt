@@ -13,7 +13,7 @@ abbrev pub join_up : List Kind → Option (List Prop) → List Prop → Option (
 join_up kinds None state = Some state
 join_up kinds (Some joined) state = Some (state_join kinds joined state)
 
--- the up state so far, where there is one, is one of the layer's group
+-- the up state so far has as many properties as those of the layer's group, and where there is one, it is one of them
 pub record RisesAt (spot : PlainSpot) (rising : RisingView) : Type 0 where
   pub width : rising.width ≡ length (group_up_shape spot.group)
   pub shape : IfSome rising.up (HasShape (group_up_shape spot.group))

@@ -47,6 +47,7 @@ mark_by t best layer domain half value [] = is_gone
 mark_by t best layer domain half value (c ∷ more) =
     if bit_at domain value == 1 then (if t.passes layer value best half.down (top_state t.up_shape) then goes_on (t.down layer value half.down) (c ∷ more) else is_cut) else is_gone
 
+-- what becomes of a value at a row, over these old rows and those of the next old layer
 abbrev pub mark : Transitions → ℤ → ℕ → List ℕ → ℕ → List PlainRow → List PlainRow → Half → ℕ → Mark
 mark t best layer values domain old old_next half value = mark_by t best layer domain half value (targets values old old_next half.from value)
 
@@ -55,16 +56,18 @@ pub record Arc : Type 0 where
   pub step : List Prop
   pub targets : List ℕ
 
+-- the arc of a value that goes on, alone; else none
 abbrev pub arcs_of_mark : Mark → List Arc
 arcs_of_mark is_gone = []
 arcs_of_mark is_cut = []
 arcs_of_mark (goes_on step targets) = record { step = step; targets = targets } ∷ []
 
--- the arcs of a row's values, and of all rows of a layer
+-- the arcs of a row's values
 abbrev pub arcs_of_values : (ℕ → Mark) → List ℕ → List Arc
 arcs_of_values marks [] = []
 arcs_of_values marks (value ∷ values) = arcs_of_mark (marks value) ++ arcs_of_values marks values
 
+-- the arcs of all rows of a layer, row by row
 abbrev pub arcs_of_rows : (Half → ℕ → Mark) → List ℕ → List Half → List Arc
 arcs_of_rows marks values [] = []
 arcs_of_rows marks values (half ∷ halves) = arcs_of_values (marks half) values ++ arcs_of_rows marks values halves
@@ -73,11 +76,12 @@ arcs_of_rows marks values (half ∷ halves) = arcs_of_values (marks half) values
 abbrev pub steps_of : List Arc → List (List Prop)
 steps_of arcs = distinct_states (map (λ (arc : Arc). arc.step) arcs)
 
--- the place of a state in a list that has it
+-- 0 where the state is the first of a list, else one more than its place in the rest
 abbrev pub place_by : Ordering → ℕ → ℕ
 place_by Equal later = 0
 place_by _ later = later + 1
 
+-- the place of a state in a list that has it
 abbrev pub place_of : List (List Prop) → List Prop → ℕ
 place_of [] state = 0
 place_of (first ∷ rest) state = place_by (state_order state first) (place_of rest state)
@@ -91,11 +95,12 @@ row_for width count place = if leb count width then place else place * width / c
 abbrev pub row_of_step : ℕ → List (List Prop) → List Prop → ℕ
 row_of_step width steps step = row_for width (length steps) (place_of steps step)
 
--- the join of states, first to last
+-- a state with others joined into it, first to last
 abbrev pub join_onto : List Kind → List Prop → List (List Prop) → List Prop
 join_onto kinds state [] = state
 join_onto kinds state (next ∷ states) = join_onto kinds (state_join kinds state next) states
 
+-- the join of states, first to last; the state without properties where there are none
 abbrev pub join_states : List Kind → List (List Prop) → List Prop
 join_states kinds [] = []
 join_states kinds (state ∷ states) = join_onto kinds state states
@@ -121,11 +126,12 @@ up_state None = None
 up_state (Some row) = row.up
 
 -- the entry of a step that leads to a row: Live where that row has an up state and the test holds with it, else Dead.
--- A row has one exactly where it is on the last layer or has a Live entry
+-- Rows of a tight revision have one exactly where they are on the last layer or have a Live entry
 abbrev pub judged_by : (List Prop → Bool) → Option (List Prop) → ℕ → Entry
 judged_by passes None c = Dead c
 judged_by passes (Some up) c = if passes up then Live c else Dead c
 
+-- the entry of a value, by what becomes of it
 abbrev pub entry_of_mark : Transitions → ℤ → ℕ → ℕ → List (List Prop) → List PlainRow → Half → ℕ → Mark → Entry
 entry_of_mark t best layer width steps next half value is_gone = Gone
 entry_of_mark t best layer width steps next half value is_cut = Cut
@@ -157,6 +163,7 @@ joined_up kinds (state ∷ states) = Some (join_onto kinds state states)
 abbrev pub row_with : Transitions → ℕ → List ℕ → List PlainRow → Half → List Entry → PlainRow
 row_with t layer values next half entries = record { down = half.down; up = joined_up t.up_shape (up_steps t layer next values entries); from = half.from; entries = entries }
 
+-- a row with an entry for each value, above these rows of the next layer
 abbrev pub finished : Transitions → ℤ → ℕ → ℕ → List ℕ → (Half → ℕ → Mark) → List (List Prop) → List PlainRow → Half → PlainRow
 finished t best width layer values marks steps next half =
     row_with t layer values next half (map (λ value. entry_of_mark t best layer width steps next half value (marks half value)) values)

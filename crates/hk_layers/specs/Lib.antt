@@ -1,4 +1,5 @@
 pub mod Climbing
+pub mod Falling
 pub mod Flat
 pub mod Layers
 pub mod Shares

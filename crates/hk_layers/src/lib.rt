@@ -3,11 +3,18 @@
 #![tactic(auto)]
 
 mod fronts;
+mod joining;
 mod laws;
+mod leading;
 mod leads;
+mod marking;
+mod marks;
+mod olds;
 mod rising;
 mod spots;
+mod uniting;
 mod ups;
+mod way_down;
 mod way_up;
 
 pub use fronts::Front;
@@ -16,4 +23,5 @@ pub use leads::Lead;
 pub use rising::Rising;
 pub use spots::Spot;
 pub use ups::Ups;
+pub use way_down::{DownBuffers, down_layer};
 pub use way_up::up_layer;

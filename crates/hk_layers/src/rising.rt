@@ -3,7 +3,7 @@ ghost use Rattle.std.specs.Prelude.{◌≡◌, ◌<◌, ◌^◌, ◌∷◌, ◌+
 ghost use Rattle.hk_group.specs.Groups.{group_up_shape, group_up};
 ghost use Rattle.hk_kinds.specs.Shapes.{HasShape};
 ghost use Rattle.hk_layers.specs.Spots.{IsSpot};
-ghost use Rattle.hk_layers.specs.Climbing.{RisesAt, join_up};
+ghost use Rattle.hk_layers.specs.Climbing.{join_up, RisesAt};
 
 use crate::spots::Spot;
 use crate::ups::Ups;
