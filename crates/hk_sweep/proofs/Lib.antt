@@ -3,6 +3,7 @@ pub mod Entries
 pub mod Exact
 pub mod ExactRuns
 pub mod ExactSteps
+pub mod Falls
 pub mod GroupTransitions
 pub mod Joins
 pub mod Kept
@@ -11,11 +12,13 @@ pub mod Marks
 pub mod OneValue
 pub mod Pieces
 pub mod Rows
+pub mod RowsMade
 pub mod Shapes
 pub mod Shown
 pub mod TightFits
 pub mod TightGroups
 pub mod TightLoose
+pub mod TightSteps
 pub mod Transcribed
 pub mod Ups
 pub mod Worked

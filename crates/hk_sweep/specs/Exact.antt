@@ -14,17 +14,19 @@ pub data PathTo : List (List ℕ) → List (List PlainRow) → ℕ → List ℕ 
       → slice_get layer c ≡ Some row → NamesRow (entry_for values row.entries value) next → PathTo more layers next rest end
       → PathTo (values ∷ more) (layer ∷ layers) c (value ∷ rest) end
 
--- the steps of a row's Live and Dead entries, which stand for these values
+-- the step of a Live or Dead entry of a row, which stands for this value
 abbrev pub step_of_entry : Transitions → ℕ → PlainRow → ℕ → Entry → List (List Prop)
 step_of_entry t layer row value (Live c) = t.down layer value row.down ∷ []
 step_of_entry t layer row value (Dead c) = t.down layer value row.down ∷ []
 step_of_entry t layer row value _ = []
 
+-- the same of a row's entries
 abbrev pub steps_of_entries : Transitions → ℕ → PlainRow → List ℕ → List Entry → List (List Prop)
 steps_of_entries t layer row [] entries = []
 steps_of_entries t layer row (value ∷ values) [] = []
 steps_of_entries t layer row (value ∷ values) (entry ∷ entries) = step_of_entry t layer row value entry ++ steps_of_entries t layer row values entries
 
+-- the same of rows
 abbrev pub steps_of_rows : Transitions → ℕ → List ℕ → List PlainRow → List (List Prop)
 steps_of_rows t layer values [] = []
 steps_of_rows t layer values (row ∷ rows) = steps_of_entries t layer row values row.entries ++ steps_of_rows t layer values rows

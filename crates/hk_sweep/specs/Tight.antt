@@ -1,4 +1,5 @@
--- The tight revision of a table: the one loose revision that the solver makes, with at most so many rows a layer.
+-- The tight revision of a table: the one revision that the solver makes, with at most so many rows a layer; a loose one
+-- where the old table has a first row.
 use Rattle.std.specs.Prelude.{ℕ, ℤ, ◌+◌, List, [], ◌∷◌, length, map}
 use Rattle.hk_kinds.specs.declared.properties.Prop.{Prop}
 use Rattle.hk_group.specs.Groups.{PlainGroup}
@@ -16,6 +17,7 @@ pub record Layers : Type 0 where
 abbrev pub finish : Transitions → ℤ → ℕ → ℕ → List ℕ → (Half → ℕ → Mark) → List (List Prop) → List Half → Layers → Layers
 finish t best width layer values marks steps halves below = record { first = map (finished t best width layer values marks steps below.first) halves; rest = below.first ∷ below.rest }
 
+-- the layers from this one on, of its rows on the way down and of the old layers from this one on
 abbrev pub tight_from : Transitions → ℤ → ℕ → ℕ → List (List ℕ) → List ℕ → List Half → List PlainRow → List (List PlainRow) → Layers
 tight_from t best width layer (values ∷ more) (domain ∷ domains) halves old (old_next ∷ olds) =
     let marks = mark t best layer values domain old old_next in

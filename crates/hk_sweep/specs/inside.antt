@@ -1,0 +1,4 @@
+pub mod Fallen
+pub mod Frames
+pub mod Rising
+pub mod Written
