@@ -10,6 +10,8 @@ mod diagrams;
 #[cfg(test)]
 mod openings;
 #[cfg(test)]
+mod readings;
+#[cfg(test)]
 mod sets;
 #[cfg(test)]
 mod supportable;

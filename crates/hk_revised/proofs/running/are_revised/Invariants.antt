@@ -1,0 +1,6 @@
+use Rattle.std.proofs.Common.{◌≡◌}
+use Rattle.hk_revised.proofs.running.are_revised.Given as goal
+
+-- the table alone is another one
+abbrev pub invariant-loop-revision : goal.invariant-loop-revision
+invariant-loop-revision g l = l.diagram ≡ record l.initial.diagram { table = l.diagram.table; numbers = l.diagram.numbers }
