@@ -1,11 +1,8 @@
 -- How many cells of each pool a layout counts.
-use Rattle.std.proofs.Common.{◌≡◌, ℕ, suc, ◌+◌, ◌*◌, ◌^◌, ◌<◌, ◌≤◌, List, [], length, get_or, eqb, sym, ◌∙◌, ap, subst, inl, inr, arith}
-use Rattle.std.specs.Int.{bit_at}
-use Rattle.std.specs.List.{range_with_len}
+use Rattle.std.proofs.Common.{◌≡◌, ℕ, suc, ◌+◌, ◌*◌, ◌^◌, ◌<◌, ◌≤◌, List, [], length, get_or, sym, ◌∙◌, ap, subst, inl, inr, arith}
 use Rattle.std.proofs.lemmas.Bool.{cases_lt}
 use Rattle.std.proofs.lemmas.List.{get_or_past, length-map}
-use Rattle.std.proofs.lemmas.List.FromFn.{length-range_with_len}
-use Rattle.std.proofs.lemmas.List.Sums.{count_by-le-length, length-filter}
+use Rattle.hk_table.proofs.ValueSets.{members_few}
 use Rattle.hk_table.specs.Tables.{PlainShape, layer_values}
 use Rattle.hk_text.specs.Sets.{members}
 use Rattle.hk_arena.proofs.CellCounts.{values_of-last, values_of-set, words_at-next}
@@ -50,11 +47,7 @@ word_count_is {form = form} {last = last} {first = first} {words = words} is las
     let next : words_at form (last + 1) 0 ≡ word_count form = ap (λ l. words_at form l 0) (omega arith) in
     omega (arith, words_at-next form last)
 
--- a set has at most 128 values
-members_few : (set : ℕ) → length (members set) ≤ 128
-unfolding members
-members_few set = omega (arith, length-filter (λ value. eqb (bit_at set value) 1) (range_with_len 0 128), count_by-le-length (λ value. eqb (bit_at set value) 1) (range_with_len 0 128), length-range_with_len 0 128)
-
+-- a layer has at most 128 values
 pub values_few : (shape : PlainShape) (layer : ℕ) → length (values_of shape layer) ≤ 128
 values_few shape layer = elim (cases_lt layer (length shape.domains)) [
   | inl within ↦ rw (values_of-set shape layer 0 within) (members_few (get_or shape.domains layer 0))

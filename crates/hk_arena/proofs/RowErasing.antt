@@ -9,7 +9,7 @@ use Rattle.hk_trail.specs.Places.{cell_count}
 use Rattle.hk_trail.specs.Pools.{Content}
 use Rattle.hk_arena.proofs.EntryReads.{entry_read}
 use Rattle.hk_arena.proofs.Listing.{get_or-changed_other, length-changed}
-use Rattle.hk_arena.proofs.Numbering.{IsRaised-more, IsRaised-none, IsRaised-within}
+use Rattle.hk_arena.proofs.Numbering.{IsRaised-more, IsRaised-within}
 use Rattle.hk_arena.proofs.RowChanges.{length-with_row, rows_of-with_row, rows_of-with_row_other}
 use Rattle.hk_arena.proofs.SupportSteps.{row_long}
 use Rattle.hk_arena.proofs.WholeRows.{HoldEntries}
@@ -73,14 +73,6 @@ AreEmptyUpTo-more shape layer rows at old new is changed empty before = λ row s
 
 -- ---- the store
 
-pub rows_unwritten : (form : Form) (layer rows most : ℕ) (store : Levels) → IsKept form store.content → AreRowsWritten form layer rows most store store
-rows_unwritten form layer rows most store kept = record {
-  kept = kept;
-  changed = IsChangedFrom-none layer rows (table_of form store.content);
-  stack = refl;
-  raised = IsRaised-within 0 most (map cell_count store.written) (map cell_count store.written) (omega arith) (IsRaised-none (map cell_count store.written));
-}
-
 -- so many cells a row, for one row more, and for no more rows than there can be
 pub cells_more : (at size : ℕ) → at * size + size ≤ (at + 1) * size
 cells_more at size = let same : at * size + size ≡ (at + 1) * size = grind arith in omega arith
@@ -99,6 +91,3 @@ rows_written form layer rows at before more most old middle new above within is 
   stack = second.stack ∙ first.stack;
   raised = IsRaised-within (before + more) most (map cell_count old.written) (map cell_count new.written) within (IsRaised-more before more (map cell_count old.written) (map cell_count middle.written) (map cell_count new.written) first.raised second.raised);
 }
-
-pub rows_written_within : (form : Form) (layer rows few most : ℕ) (old new : Levels) → few ≤ most → AreRowsWritten form layer rows few old new → AreRowsWritten form layer rows most old new
-rows_written_within form layer rows few most old new within written = record { kept = written.kept; changed = written.changed; stack = written.stack; raised = IsRaised-within few most (map cell_count old.written) (map cell_count new.written) within written.raised }

@@ -1,10 +1,7 @@
 -- What becomes of the values of a row: by the tests of one value, and as the definitions say it.
-use Rattle.std.proofs.Common.{◌≡◌, ◌≤◌, ◌↔◌, ℕ, Bool, true, false, not, ◌==◌, if◌then◌else◌, IsTrue, List, [], ◌∷◌, ◌++◌, length, map, refl, sym, ◌∙◌, ap, arith}
+use Rattle.std.proofs.Common.{◌≡◌, ◌↔◌, ℕ, Bool, true, false, ◌==◌, if◌then◌else◌, IsTrue, List, [], ◌∷◌, ◌++◌, map, refl, sym, ◌∙◌, ap}
 use Rattle.std.proofs.lemmas.List.{append_assoc}
-use Rattle.std.proofs.lemmas.List.Filters.{length-filter_both}
-use Rattle.std.proofs.lemmas.List.FromFn.{length-range_with_len}
 use Rattle.std.specs.Int.{bit_at}
-use Rattle.std.specs.List.{range_with_len}
 use Rattle.hk_group.specs.Groups.{group_up_shape, group_down, group_passes}
 use Rattle.hk_kinds.specs.Tops.{top_state}
 use Rattle.hk_kinds.specs.declared.properties.Prop.{Prop}
@@ -45,13 +42,6 @@ marks_more spot down done new whole values rest lists others value targets value
 mark_same : (spot : PlainSpot) (half : Half) (value : ℕ) (targets : List ℕ) → mark_from spot half.down value targets ≡ mark_by (transitions_of spot.group) spot.best spot.layer spot.domain half value targets
 mark_same spot half value [] = refl
 mark_same spot half value (c ∷ more) = refl
-
--- a set has at most 128 values
-pub members_few : (set : ℕ) → length (members set) ≤ 128
-unfolding members
-members_few set =
-    let has : ℕ → Bool = λ value. bit_at set value == 1 in
-    omega (arith, length-filter_both has (λ value. not (has value)) (λ value. refl) (range_with_len 0 128), length-range_with_len 0 128)
 
 module _ (spot : PlainSpot) (old old_next : List PlainRow) where
   -- the marks of a row, by the old rows that its values lead to

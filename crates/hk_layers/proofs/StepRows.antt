@@ -162,9 +162,6 @@ pub record JoinedUpTo (kinds : List Kind) (width : ℕ) (steps : List (List Prop
   pub long : length rows ≡ reached width (length steps) i
   pub joined : JoinedRows kinds (row_of_step width steps) (take i steps) rows
 
-pub joined_none : (kinds : List Kind) (width : ℕ) (steps : List (List Prop)) → JoinedUpTo kinds width steps 0 []
-joined_none kinds width steps = record { long = refl; joined = record { each = λ c lt. absurd (omega arith); none = λ c le. refl } }
-
 pub joined_next : (kinds : List Kind) (width : ℕ) (steps : List (List Prop)) (i : ℕ) (rows : List (List Prop)) → Ascends steps → i < length steps → JoinedUpTo kinds width steps i rows
     → JoinedUpTo kinds width steps (i + 1) (rows_with kinds (row_for width (length steps) i) (get_or steps i []) rows)
 joined_next kinds width steps i rows ascends lt h =

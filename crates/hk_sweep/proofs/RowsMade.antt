@@ -1,19 +1,16 @@
 -- The rows that are made on the way up, and layers that are written row by row.
-use Rattle.std.proofs.Common.{◌≡◌, ◌≢◌, ℕ, zero, suc, ◌+◌, ◌*◌, ◌<◌, ◌≤◌, List, [], ◌∷◌, ◌++◌, Option, None, length, map, take, drop, get_or, refl, sym, ◌∙◌, ap, ap₂, arith}
-use Rattle.std.proofs.lemmas.List.{drop_at, drop-drop, length-append, length-map, take_all, take_at, take_more_same}
+use Rattle.std.proofs.Common.{◌≡◌, ◌≢◌, ℕ, zero, suc, ◌+◌, ◌*◌, ◌<◌, ◌≤◌, List, [], ◌∷◌, Option, None, length, take, drop, get_or, refl, sym, ◌∙◌, ap, arith}
+use Rattle.std.proofs.lemmas.List.{drop-drop, take_all, take_more_same}
 use Rattle.hk_arena.proofs.RowChanges.{length-with_row, rows_of-with_row, rows_of-with_row_other}
 use Rattle.hk_arena.proofs.Listing.{get_or-changed_same, length-changed}
 use Rattle.hk_arena.specs.Changes.{changed, with_row}
 use Rattle.hk_arena.specs.Diagrams.{DiagramLevels, IsRow, rows_of}
 use Rattle.hk_arena.specs.declared.ids.RowId.{RowId}
 use Rattle.hk_kinds.specs.declared.properties.Prop.{Prop}
-use Rattle.hk_layers.specs.Flat.{AreRowsOf, half_at, ups_of}
-use Rattle.hk_layers.specs.Layers.{Half, Mark, last_row}
-use Rattle.hk_layers.specs.Spots.{PlainSpot, finished_at}
-use Rattle.hk_layers.specs.Transitions.{Transitions}
-use Rattle.hk_table.specs.Tables.{PlainRow, flat_entries}
+use Rattle.hk_layers.specs.Flat.{half_at}
+use Rattle.hk_layers.specs.Layers.{Half}
+use Rattle.hk_table.specs.Tables.{PlainRow}
 use Rattle.hk_table.specs.declared.entries.Entry.{Entry}
-use Rattle.hk_text.specs.Sets.{members}
 use Rattle.hk_sweep.specs.inside.Written.{IsLayerWritten, made_row, rows_made}
 
 -- ---- the rows that are made
@@ -50,58 +47,6 @@ pub made_of_part : (count : ℕ) (halves : List Half) (ups : List (Option (List 
     → size ≡ count → part ≡ take size (drop (at * size) entries) → get_or (rows_made count halves ups entries) at no_row ≡ made_row halves ups at part
 made_of_part count halves ups entries part at size same within long is =
     rows_made_at count halves ups entries at same within ∙ ap (made_row halves ups at) (sym (is ∙ ap (λ n. take n (drop (at * n) entries)) long))
-
--- rows that have so many entries each are those that are made of what they are
-module _ (count : ℕ) (row : Half → PlainRow) (downs : (half : Half) → (row half).down ≡ half.down) (froms : (half : Half) → (row half).from ≡ half.from) (long : (half : Half) → length (row half).entries ≡ count) where
-  -- one of them
-  made_whole : (half : Half) (up : Option (List Prop)) (entries : List Entry) → up ≡ (row half).up → entries ≡ (row half).entries → record { down = half.down; up = up; from = half.from; entries = entries } ≡ row half
-  made_whole half up entries same is =
-      ap (λ down. record { down = down; up = up; from = half.from; entries = entries }) (sym (downs half))
-      ∙ (ap (λ up. record { down = (row half).down; up = up; from = half.from; entries = entries }) same
-      ∙ (ap (λ from. record { down = (row half).down; up = (row half).up; from = from; entries = entries }) (sym (froms half))
-      ∙ ap (λ entries. record { down = (row half).down; up = (row half).up; from = (row half).from; entries = entries }) is))
-
-  -- all of them
-  pub rows_made-all : (halves : List Half) → rows_made count halves (ups_of (map row halves)) (flat_entries (map row halves)) ≡ map row halves
-  rows_made-all [] = refl
-  rows_made-all (half ∷ halves) =
-      let own = (row half).entries in
-      let rest = flat_entries (map row halves) in
-      ap₂ ◌∷◌
-      (made_whole half (row half).up (take count (own ++ rest)) refl (take_at own rest count (long half)))
-      (ap (rows_made count halves (ups_of (map row halves))) (drop_at own rest count (long half)) ∙ rows_made-all halves)
-
-  -- there are so many entries
-  pub length-flat_entries : (halves : List Half) → length (flat_entries (map row halves)) ≡ length halves * count
-  length-flat_entries [] =
-      let none : 0 * count ≡ 0 = omega arith in
-      sym none
-  length-flat_entries (half ∷ halves) =
-      length-append (row half).entries (flat_entries (map row halves))
-      ∙ (ap₂ ◌+◌ (long half) (length-flat_entries halves)
-      ∙ sym (suc_times (length halves) count))
-
--- a finished row has an entry for each value
-pub finished_long : (spot : PlainSpot) (marks : Half → ℕ → Mark) (steps : List (List Prop)) (next : List PlainRow) (half : Half) → length (finished_at spot marks steps next half).entries ≡ length (members spot.values)
-finished_long spot marks steps next half = length-map (members spot.values) _
-
--- what is made of the entries and up states of finished rows are these rows
-pub finished_made : (spot : PlainSpot) (marks : Half → ℕ → Mark) (steps : List (List Prop)) (next : List PlainRow) (halves : List Half) (entries : List Entry) (ups : List (Option (List Prop)))
-    → AreRowsOf (map (finished_at spot marks steps next) halves) entries ups → rows_made (length (members spot.values)) halves ups entries ≡ map (finished_at spot marks steps next) halves
-finished_made spot marks steps next halves entries ups are =
-    ap₂ (rows_made (length (members spot.values)) halves) are.ups_are are.entries_are
-    ∙ rows_made-all (length (members spot.values)) (finished_at spot marks steps next) (λ half. refl) (λ half. refl) (finished_long spot marks steps next) halves
-
--- rows of the last layer have no entries
-no_entries : (t : Transitions) (halves : List Half) → flat_entries (map (last_row t) halves) ≡ []
-no_entries t [] = refl
-no_entries t (half ∷ halves) = no_entries t halves
-
--- what is made of the up states of the last layer are its rows
-pub last_made : (t : Transitions) (halves : List Half) → rows_made 0 halves (ups_of (map (last_row t) halves)) [] ≡ map (last_row t) halves
-last_made t halves =
-    ap (rows_made 0 halves (ups_of (map (last_row t) halves))) (sym (no_entries t halves))
-    ∙ rows_made-all 0 (last_row t) (λ half. refl) (λ half. refl) (λ half. refl) halves
 
 -- ---- layers that are written row by row
 

@@ -1,11 +1,14 @@
 -- The values of a set as a list: how many they are, and the least of them.
-use Rattle.std.proofs.Common.{◌≡◌, ℕ, zero, suc, ◌+◌, ◌-◌, ◌*◌, ◌/◌, ◌%◌, ◌^◌, ◌<◌, ◌≤◌, ◌==◌, false, cond, [], ◌∷◌, ◌++◌, length, refl, sym, ◌∙◌, ap, subst, inl, inr, arith, bit_and}
+use Rattle.std.proofs.Common.{◌≡◌, ℕ, zero, suc, ◌+◌, ◌-◌, ◌*◌, ◌/◌, ◌%◌, ◌^◌, ◌<◌, ◌≤◌, ◌==◌, false, cond, eqb, [], ◌∷◌, ◌++◌, length, refl, sym, ◌∙◌, ap, subst, inl, inr, arith, bit_and}
 use Rattle.std.specs.Int.{bit_at, trailing_zeros, w128}
 use Rattle.std.specs.Int.Count.{ones}
 use Rattle.std.proofs.Math.Nat.{add_comm, mod-lt}
 use Rattle.std.proofs.Math.Pow.{pow-lt}
 use Rattle.std.proofs.lemmas.Bool.{cases_eq, eq-eqb, ne_eqb}
 use Rattle.std.proofs.lemmas.List.{length-append}
+use Rattle.std.proofs.lemmas.List.FromFn.{length-range_with_len}
+use Rattle.std.proofs.lemmas.List.Sums.{count_by-le-length, length-filter}
+use Rattle.std.specs.List.{range_with_len}
 use Rattle.std.proofs.lemmas.Nat.{mod-pow-add, ones_cat, pow_pos}
 use Rattle.std.proofs.lemmas.Nat.Bits.{bit_at-lt, bit_at-pow_same, bit_at-pow_other, bit_at-trailing_zeros, bit_at-zero, bit_at_and, bit_at_cat_low, bit_at_cat_high, bit_at_ones_above, same_from_bits_below}
 use Rattle.hk_text.proofs.Members.{members_below_more, members_below_none}
@@ -135,3 +138,8 @@ least_split set some fits =
       within = within;
       gone = rest.low least (omega arith);
     }
+
+-- a set has at most 128 values
+pub members_few : (set : ℕ) → length (members set) ≤ 128
+unfolding members
+members_few set = omega (arith, length-filter (λ value. eqb (bit_at set value) 1) (range_with_len 0 128), count_by-le-length (λ value. eqb (bit_at set value) 1) (range_with_len 0 128), length-range_with_len 0 128)

@@ -1,6 +1,7 @@
 use Rattle.std.proofs.Common.{◌≡◌, ◌<◌, ◌+◌, ◌*◌, length, arith, ◌∙◌, ap}
 use Rattle.std.proofs.lemmas.List.{drop_more}
-use Rattle.hk_layers.proofs.RowMarks.{members_few, rows_more}
+use Rattle.hk_layers.proofs.RowMarks.{rows_more}
+use Rattle.hk_table.proofs.ValueSets.{members_few}
 use Rattle.hk_layers.specs.Flat.{half_at}
 use Rattle.hk_layers.specs.inside.Targets.{lists_of}
 use Rattle.hk_layers.proofs.marking.mark_layer.Goals as goal

@@ -1,5 +1,5 @@
 use Rattle.std.proofs.Common.{◌≡◌, ◌++◌, map, drop, slice_index}
-use Rattle.hk_revised.proofs.shapes.sets_of.Given as goal
+use Rattle.hk_sweep.proofs.shaping.sets_of.Given as goal
 
 -- all sets are the ones so far and those of the variables that are left
 abbrev pub invariant-loop-variable : goal.invariant-loop-variable
