@@ -15,6 +15,9 @@ use std::alloc::{AllocError, Global};
 use std::cmp::Ordering;
 use std::marker::Model;
 
+/// Among how many of a row's last candidates a step is looked for.
+const LOOKED_BACK: usize = 4;
+
 /// What becomes of a value of a row: no path has it, or it was taken away; its test fails whatever comes
 /// after it; or it goes on to a step, which is the candidate of this number.
 #[derive(Clone, Copy, Debug, PartialEq, Eq)]
@@ -99,7 +102,7 @@ impl Marks {
     }
 
     /// Adds the mark of a value that goes on from a down state. Its step is a candidate; no new one where it
-    /// is one of the candidates from `first` on.
+    /// is one of the last few candidates from `first` on.
     pub(crate) fn go_on(
         &mut self,
         spot: &Spot<'_>,
@@ -123,7 +126,10 @@ impl Marks {
     {
         spot.group
             .write_down(spot.layer as usize, value, from, &mut self.step);
-        let number = number_of(&mut self.candidates, first, &self.step.view())?;
+        // A row with many values would be looked through in the square of their number. What is missed here is a
+        // candidate twice, and the same step in the end.
+        let recent = first.max(self.candidates.len().saturating_sub(LOOKED_BACK));
+        let number = number_of(&mut self.candidates, recent, &self.step.view())?;
         self.add(Fate::On(number), set)?;
         Ok(())
     }

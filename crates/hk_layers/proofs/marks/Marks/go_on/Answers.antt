@@ -44,7 +44,7 @@ stepped c = c.view.ensures ∙ (c.write_down.ensures.step ∙ ap (λ (s : PlainS
 pub returns-clause-marks : goal.returns-clause-marks
 returns-clause-marks c =
     ap marks_of c.in_ok-add.ensures.ok
-    ∙ (marks_on _ _ (before c) (marked c) c.args.set.now c.requires.within c.view.result (shaped c) (few c) c.args.first c.in_ok-number.number c.number_of.new.candidates.rows c.in_ok-number.ensures.number
+    ∙ (marks_on _ _ (before c) (marked c) c.args.set.now c.requires.within c.view.result (shaped c) (few c) _ c.in_ok-number.number c.number_of.new.candidates.rows c.in_ok-number.ensures.number
     ∙ (ap (λ state. marks_of (before c) ++ goes_on state (members_below c.args.set.now 256) ∷ []) (stepped c)
     ∙ ap (λ (m : MarksView). marks_of m ++ goes_on (group_down c.args.spot.now.group c.args.spot.now.layer c.args.value c.args.from.now) (members_below c.args.set.now 256) ∷ []) c.self.view_is))
 
@@ -52,4 +52,4 @@ pub returns-clause-marked : goal.returns-clause-marked
 returns-clause-marked c =
     subst (AreMarked c.args.spot.now c.args.old_rows) (sym c.in_ok-add.ensures.ok)
     (subst (λ w. AreMarked c.args.spot.now c.args.old_rows (record (with_mark (before c) c.number_of.new.candidates.rows (fate.On c.in_ok-number.number) c.args.set.now) { width = w })) (sym c.number_of.ensures.width)
-    (marked_on _ _ (before c) (marked c) c.args.set.now c.requires.within c.view.result (shaped c) (few c) c.args.first c.in_ok-number.number c.number_of.new.candidates.rows c.in_ok-number.ensures.number))
+    (marked_on _ _ (before c) (marked c) c.args.set.now c.requires.within c.view.result (shaped c) (few c) _ c.in_ok-number.number c.number_of.new.candidates.rows c.in_ok-number.ensures.number))
