@@ -13,6 +13,8 @@ mod kinds;
 #[cfg(test)]
 mod later;
 #[cfg(test)]
+mod levels;
+#[cfg(test)]
 mod library;
 #[cfg(test)]
 mod lines;

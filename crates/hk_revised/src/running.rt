@@ -1,9 +1,9 @@
 //! What revisions make of the opening table of a group's diagram.
 
-ghost use Rattle.std.specs.Prelude.{◌≡◌, ◌+◌, ◌<◌, [], length, All, IsTrue};
+ghost use Rattle.std.specs.Prelude.{◌≡◌, ◌+◌, ◌<◌, [], length, All, IsSome, IsTrue};
 ghost use Rattle.hk_arena.specs.Diagrams.{DiagramLevels};
 ghost use Rattle.hk_group.specs.Groups.{group_down_shape, group_up_shape};
-ghost use Rattle.hk_sweep.specs.Revising.{IsMadeFor};
+ghost use Rattle.hk_sweep.specs.Revising.{AreFor, IsMadeFor};
 
 use crate::composed::group_of;
 use crate::lines::push_table;
@@ -13,7 +13,7 @@ use hk_arena::Diagram;
 use hk_base::{Bytes, List};
 use hk_cells::Steps;
 use hk_group::Group;
-use hk_sweep::{revise, shape_of};
+use hk_sweep::{Buffers, revise, revise_in, shape_of};
 use hk_table::Shape;
 use std::alloc::{AllocError, Global};
 use std::marker::Brand;
@@ -39,14 +39,14 @@ pub struct Case {
 }
 
 /// Whether each variable is below a number.
-fn are_below(vars: &[u16], count: usize) -> bool
+pub fn are_below(vars: &[u16], count: usize) -> bool
     ensures { IsTrue result → All (λ variable. variable < count) vars.now }
 {
     vars.iter().all(|variable| usize::from(*variable) < count)
 }
 
 /// The lines of the table of a diagram.
-fn lines_of(alloc: Global, diagram: &Diagram, group: &Group, last: u16) -> Option<Bytes>
+pub fn lines_of(alloc: Global, diagram: &Diagram, group: &Group, last: u16) -> Option<Bytes>
     requires last { last ≡ length diagram.now.shape.domains }
     requires down { diagram.now.shape.down ≡ group_down_shape group.now }
     requires up { diagram.now.shape.up ≡ group_up_shape group.now }
@@ -57,7 +57,7 @@ fn lines_of(alloc: Global, diagram: &Diagram, group: &Group, last: u16) -> Optio
 }
 
 /// Whether these are the lines of the table of a diagram.
-fn is_written(
+pub fn is_written(
     alloc: Global,
     diagram: &Diagram,
     group: &Group,
@@ -71,6 +71,35 @@ fn is_written(
     let lines = lines_of(alloc, diagram, group, last)?;
     let told = lines.as_slice() == text;
     drop(lines);
+    Some(told)
+}
+
+/// Makes a revision above a push in buffers that are lent, and says whether the table has its lines.
+fn is_revised_in<L: Ledger>(
+    alloc: Global,
+    buffers: &mut Buffers,
+    diagram: &mut Diagram,
+    group: &Group,
+    revision: &Revision,
+    width: u16,
+    last: u16,
+    steps: &mut Steps<L>,
+) -> Option<bool>
+    requires buffers { AreFor group.now buffers.old }
+    requires made { IsMadeFor group.now width diagram.old }
+    requires last { last ≡ length diagram.old.shape.domains }
+    requires few { length diagram.old.stack < 1000 }
+    ensures buffers { AreFor group.now buffers.new }
+    ensures diagram { IsSome result → diagram.new ≡ record diagram.old { table = diagram.new.table; numbers = diagram.new.numbers } }
+{
+    if !are_below(group.vars(), revision.domains.len()) {
+        return None;
+    }
+    let (domains, best) = (revision.domains, revision.best);
+    diagram.push().ok()?;
+    revise_in(alloc, buffers, diagram, group, domains, best, width, steps).ok()?;
+    let told = is_written(alloc, diagram, group, last, revision.text.as_bytes())?;
+    diagram.pop(steps);
     Some(told)
 }
 
@@ -96,9 +125,11 @@ fn is_revised<L: Ledger>(
     is_written(alloc, diagram, group, last, revision.text.as_bytes())
 }
 
-/// Makes all revisions, one after the other, and says whether each table has its lines.
+/// Makes all revisions, one after the other, and says whether each table has its lines: first in buffers
+/// that all of them are lent, and after a pop once more in its own.
 fn are_revised<L: Ledger>(
     alloc: Global,
+    buffers: &mut Buffers,
     diagram: &mut Diagram,
     group: &Group,
     revisions: &[Revision],
@@ -106,13 +137,17 @@ fn are_revised<L: Ledger>(
     last: u16,
     steps: &mut Steps<L>,
 ) -> Option<bool>
+    requires buffers { AreFor group.now buffers.old }
     requires made { IsMadeFor group.now width diagram.old }
     requires last { last ≡ length diagram.old.shape.domains }
-    ensures { diagram.new ≡ record diagram.old { table = diagram.new.table; numbers = diagram.new.numbers } }
+    requires few { length diagram.old.stack < 1000 }
+    ensures { IsSome result → diagram.new ≡ record diagram.old { table = diagram.new.table; numbers = diagram.new.numbers } }
 {
     let mut told = true;
     for revision in revisions {
-        told = is_revised(alloc, diagram, group, revision, width, last, steps)? && told;
+        let lent = is_revised_in(alloc, buffers, diagram, group, revision, width, last, steps)?;
+        let own = is_revised(alloc, diagram, group, revision, width, last, steps)?;
+        told = told && lent && own;
     }
     Some(told)
 }
@@ -121,6 +156,7 @@ fn are_revised<L: Ledger>(
 /// before, whose lines are told, after the pop.
 fn are_taken_back<L: Ledger>(
     alloc: Global,
+    buffers: &mut Buffers,
     diagram: &mut Diagram,
     group: &Group,
     case: &Case,
@@ -131,6 +167,7 @@ fn are_taken_back<L: Ledger>(
     requires name { blank.name ≡ L.name }
     requires parts { blank.parts ≡ L.parts }
     requires some { 0 < blank.parts }
+    requires buffers { AreFor group.now buffers.old }
     requires made { IsMadeFor group.now case.now.width diagram.old }
     requires last { last ≡ length diagram.old.shape.domains }
     requires few { length diagram.old.stack ≡ 0 }
@@ -139,6 +176,7 @@ fn are_taken_back<L: Ledger>(
     diagram.push().ok()?;
     let told = are_revised(
         alloc,
+        buffers,
         diagram,
         group,
         case.revisions,
@@ -149,6 +187,34 @@ fn are_taken_back<L: Ledger>(
     diagram.pop(&mut steps);
     let back = is_written(alloc, diagram, group, last, opening)?;
     Some([told, back])
+}
+
+/// The same of a new diagram, whose lines are told, in new buffers.
+fn are_buffered(
+    alloc: Global,
+    diagram: &mut Diagram,
+    group: &Group,
+    case: &Case,
+    last: u16,
+    opening: &[u8],
+) -> Option<[bool; 2]>
+    requires made { IsMadeFor group.now case.now.width diagram.old }
+    requires last { last ≡ length diagram.old.shape.domains }
+    requires few { length diagram.old.stack ≡ 0 }
+{
+    let mut buffers = Buffers::new(alloc, group).ok()?;
+    let told = are_taken_back::<Brand>(
+        alloc,
+        &mut buffers,
+        diagram,
+        group,
+        case,
+        last,
+        opening,
+        Blank::new(1),
+    );
+    drop(buffers);
+    told
 }
 
 /// The same of a new diagram.
@@ -164,15 +230,7 @@ fn are_made(
     requires few { length diagram.old.stack ≡ 0 }
 {
     let opening = lines_of(alloc, diagram, group, last)?;
-    let told = are_taken_back::<Brand>(
-        alloc,
-        diagram,
-        group,
-        case,
-        last,
-        opening.as_slice(),
-        Blank::new(1),
-    );
+    let told = are_buffered(alloc, diagram, group, case, last, opening.as_slice());
     drop(opening);
     told
 }

@@ -1,4 +1,4 @@
-//! Rows that the papers work out: a sum and a cost of two variables at two widths, and three variables that
+//! Tables worked out by hand: a sum and a cost of two variables at two widths, and three variables that
 //! are never pairwise distinct.
 
 use crate::parts::{Part, Rule};

@@ -1,1 +1,2 @@
 pub mod Makeable
+pub mod Shaped

@@ -4,15 +4,23 @@
 #![tactic(auto)]
 
 #[cfg(test)]
+mod changed;
+#[cfg(test)]
+mod changes;
+#[cfg(test)]
 mod copies;
 #[cfg(test)]
-mod diagrams;
+mod filling;
+#[cfg(test)]
+mod leading;
 #[cfg(test)]
 mod openings;
 #[cfg(test)]
 mod readings;
 #[cfg(test)]
 mod sets;
+#[cfg(test)]
+mod shapes;
 #[cfg(test)]
 mod supportable;
 #[cfg(test)]

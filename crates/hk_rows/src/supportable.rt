@@ -9,7 +9,7 @@ use hk_base::List;
 use hk_table::{Entry, Row, Shape, Table, value_count};
 
 /// Whether the row that an entry leads to, where it is Live, is below this number.
-fn leads_below(entry: Entry, next: usize) -> bool
+pub fn leads_below(entry: Entry, next: usize) -> bool
     ensures { IsTrue result → (row : ℕ) → entry ≡ Entry.Live row → row < next }
 {
     match entry.live() {

@@ -3,7 +3,7 @@ use Rattle.hk_kinds.specs.declared.kinds.Kind.{Kind}
 use Rattle.hk_table.specs.Tables.{PlainShape}
 use Rattle.hk_text.specs.Sets.{members}
 use Rattle.hk_rows.proofs.Makeable.{makeable}
-use Rattle.hk_rows.proofs.diagrams.is_makeable.Goals as goal
+use Rattle.hk_rows.proofs.shapes.is_makeable.Goals as goal
 
 pub returns : goal.returns
 returns c judged =
