@@ -2,13 +2,13 @@
 use Rattle.std.proofs.Common.{◌≡◌, ◌≢◌, ℕ, ◌<◌, List, [], ◌∷◌, ◌++◌, length, map, refl, sym, ap, subst, ◌∙◌, arith}
 use Rattle.std.specs.Prelude.{codes}
 use Rattle.std.proofs.lemmas.List.{append_assoc}
-use Rattle.hk_text.specs.Numbers.{IsNumber, IsNumberUpTo}
+use Rattle.hk_text.specs.Numbers.{IsNumberUpTo}
 use Rattle.hk_lines.specs.Limits.{above_limits}
 use Rattle.hk_lines.specs.Phrases.{Values, Row, RangeThen, NamesThen, SetThen, AreCounting, RowThen, AreRows, last_row, more_rows}
 use Rattle.hk_lines.specs.Shapes.{capped_values, capped_counting, capped_row}
 use Rattle.hk_lines.specs.inside.Capped.{BeginsCapped, BeginsWithout, IsCapped, AreNone}
 use Rattle.hk_lines.specs.inside.Pieces.{IsWholeRange}
-use Rattle.hk_text.proofs.TokenTexts.{apart_none, same_first, same_rest}
+use Rattle.hk_text.proofs.TokenTexts.{apart_none, same_rest}
 use Rattle.hk_lines.proofs.CountPhrases.{range_one, row_one, row_shorter}
 use Rattle.hk_lines.proofs.Lists.{ReadsOn, capped_more}
 use Rattle.hk_lines.proofs.Phrasing.{set_one}

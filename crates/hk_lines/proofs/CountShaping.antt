@@ -6,7 +6,7 @@ use Rattle.hk_lines.specs.Phrases.{Row, Counting, NamesThen, AreCounting, AreRow
 use Rattle.hk_lines.specs.inside.Pieces.{NumberThen}
 use Rattle.hk_lines.specs.Shapes.{SayNothing, capped, capped_counting, capped_row}
 use Rattle.hk_lines.specs.inside.Capped.{BeginsCapped, BeginsWithout, IsCapped, AreNone}
-use Rattle.hk_lines.specs.Statements.{Statement, Among, Sequence, Gcc, Says, says_header, says_variable, says_distinct, says_among, says_sequence, says_gcc, says_total, says_objective}
+use Rattle.hk_lines.specs.Statements.{Statement, Among, Sequence, Gcc, Says, says_header, says_variable, says_distinct, says_among, says_sequence, says_gcc, says_total, says_objective, says_new_group}
 use Rattle.hk_text.proofs.TokenTexts.{apart, same_rest}
 use Rattle.hk_lines.proofs.ScopeNames.{names_one}
 use Rattle.hk_lines.proofs.Shaping.{SayCapped}
@@ -27,6 +27,7 @@ among_parts (says_sequence x number counting) is = absurd (apart 0 x is refl)
 among_parts (says_gcc x scope rows) is = absurd (apart 0 x is refl)
 among_parts (says_total x terms bounds) is = absurd (apart 0 x is refl)
 among_parts (says_objective x terms) is = absurd (apart 0 x is refl)
+among_parts (says_new_group x) is = absurd (apart 0 x is refl)
 
 -- the window of a sequence and what it counts
 record SequenceParts (texts : List (List ℕ)) : Type 0 where
@@ -48,6 +49,7 @@ sequence_parts (says_sequence {more = more} {digits = digits} {window = window} 
 sequence_parts (says_gcc x scope rows) is = absurd (apart 0 x is refl)
 sequence_parts (says_total x terms bounds) is = absurd (apart 0 x is refl)
 sequence_parts (says_objective x terms) is = absurd (apart 0 x is refl)
+sequence_parts (says_new_group x) is = absurd (apart 0 x is refl)
 
 -- the names and the rows of a gcc
 record GccParts (texts : List (List ℕ)) : Type 0 where
@@ -69,6 +71,7 @@ gcc_parts (says_gcc {more = more} {after = after} {names = names} {rows = rows} 
     record { inner = more; after = after; names = names; rows = rows; parts = same_rest is x; scope = scope; phrase = phrase }
 gcc_parts (says_total x terms bounds) is = absurd (apart 0 x is refl)
 gcc_parts (says_objective x terms) is = absurd (apart 0 x is refl)
+gcc_parts (says_new_group x) is = absurd (apart 0 x is refl)
 
 module _ {texts : List (List ℕ)} where
   -- `among (NAME, NAME) SET LEAST..MOST` says how many variables take values of a set

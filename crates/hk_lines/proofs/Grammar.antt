@@ -1,7 +1,7 @@
 -- The tokens of a line say at most one statement.
 use Rattle.std.proofs.Common.{◌≡◌, ℕ, List, [], ◌∷◌, refl, ap, subst, ◌∙◌}
 use Rattle.hk_lines.specs.Phrases.{NamesThen, SetThen, TermsThen, BoundsThen, AreCounting, AreRows}
-use Rattle.hk_lines.specs.Statements.{Statement, Variable, Distinct, Among, Sequence, Gcc, Total, Objective, Says, says_header, says_variable, says_distinct, says_among, says_sequence, says_gcc, says_total, says_objective, scope_end}
+use Rattle.hk_lines.specs.Statements.{Statement, Variable, Distinct, Among, Sequence, Gcc, Total, Objective, Says, says_header, says_variable, says_distinct, says_among, says_sequence, says_gcc, says_total, says_objective, says_new_group, scope_end}
 use Rattle.hk_text.proofs.TokenTexts.{apart, apart_none, same_first, same_rest}
 use Rattle.hk_lines.proofs.CountPhrases.{counting_one, rows_one}
 use Rattle.hk_lines.proofs.Phrasing.{first_number_one, set_one, terms_one, bounds_one}
@@ -28,6 +28,7 @@ says_one (says_header x) (says_sequence y number counting) = absurd (apart 0 x y
 says_one (says_header x) (says_gcc y scope rows) = absurd (apart 0 x y refl)
 says_one (says_header x) (says_total y terms bounds) = absurd (apart 0 x y refl)
 says_one (says_header x) (says_objective y terms) = absurd (apart 0 x y refl)
+says_one (says_header x) (says_new_group y) = absurd (apart 0 x y refl)
 says_one (says_variable x word set) (says_header y) = absurd (apart 0 x y refl)
 says_one (says_variable {name = n} {set = s} x word set) (says_variable {name = n'} {set = s'} y word' set') =
     let after = same_rest x y in
@@ -41,6 +42,7 @@ says_one (says_variable x word set) (says_sequence y number counting) = absurd (
 says_one (says_variable x word set) (says_gcc y scope rows) = absurd (apart 0 x y refl)
 says_one (says_variable x word set) (says_total y terms bounds) = absurd (apart 0 x y refl)
 says_one (says_variable x word set) (says_objective y terms) = absurd (apart 0 x y refl)
+says_one (says_variable x word set) (says_new_group y) = absurd (apart 0 x y refl)
 says_one (says_distinct x words) (says_header y) = absurd (apart 0 x y refl)
 says_one (says_distinct x words) (says_variable y word set) = absurd (apart 0 x y refl)
 says_one (says_distinct {name = n} {more = m} x words) (says_distinct {name = n'} {more = m'} y words') =
@@ -53,6 +55,7 @@ says_one (says_distinct x words) (says_sequence y number counting) = absurd (apa
 says_one (says_distinct x words) (says_gcc y scope rows) = absurd (apart 0 x y refl)
 says_one (says_distinct x words) (says_total y terms bounds) = absurd (apart 0 x y refl)
 says_one (says_distinct x words) (says_objective y terms) = absurd (apart 0 x y refl)
+says_one (says_distinct x words) (says_new_group y) = absurd (apart 0 x y refl)
 says_one (says_among x counting) (says_header y) = absurd (apart 0 x y refl)
 says_one (says_among x counting) (says_variable y word set) = absurd (apart 0 x y refl)
 says_one (says_among x counting) (says_distinct y words) = absurd (apart 0 x y refl)
@@ -63,6 +66,7 @@ says_one (says_among x counting) (says_sequence y number counting') = absurd (ap
 says_one (says_among x counting) (says_gcc y scope rows) = absurd (apart 0 x y refl)
 says_one (says_among x counting) (says_total y terms bounds) = absurd (apart 0 x y refl)
 says_one (says_among x counting) (says_objective y terms) = absurd (apart 0 x y refl)
+says_one (says_among x counting) (says_new_group y) = absurd (apart 0 x y refl)
 says_one (says_sequence x number counting) (says_header y) = absurd (apart 0 x y refl)
 says_one (says_sequence x number counting) (says_variable y word set) = absurd (apart 0 x y refl)
 says_one (says_sequence x number counting) (says_distinct y words) = absurd (apart 0 x y refl)
@@ -75,6 +79,7 @@ says_one (says_sequence {window = w} {counting = c} x number counting) (says_seq
 says_one (says_sequence x number counting) (says_gcc y scope rows) = absurd (apart 0 x y refl)
 says_one (says_sequence x number counting) (says_total y terms bounds) = absurd (apart 0 x y refl)
 says_one (says_sequence x number counting) (says_objective y terms) = absurd (apart 0 x y refl)
+says_one (says_sequence x number counting) (says_new_group y) = absurd (apart 0 x y refl)
 says_one (says_gcc x scope rows) (says_header y) = absurd (apart 0 x y refl)
 says_one (says_gcc x scope rows) (says_variable y word set) = absurd (apart 0 x y refl)
 says_one (says_gcc x scope rows) (says_distinct y words) = absurd (apart 0 x y refl)
@@ -87,6 +92,7 @@ says_one (says_gcc {after = a} {names = n} {rows = r} x scope rows) (says_gcc y 
     λ i. Gcc (names.0 i) (same i)
 says_one (says_gcc x scope rows) (says_total y terms bounds) = absurd (apart 0 x y refl)
 says_one (says_gcc x scope rows) (says_objective y terms) = absurd (apart 0 x y refl)
+says_one (says_gcc x scope rows) (says_new_group y) = absurd (apart 0 x y refl)
 says_one (says_total x terms bounds) (says_header y) = absurd (apart 0 x y refl)
 says_one (says_total x terms bounds) (says_variable y word set) = absurd (apart 0 x y refl)
 says_one (says_total x terms bounds) (says_distinct y words) = absurd (apart 0 x y refl)
@@ -99,6 +105,7 @@ says_one (says_total {bounds = b} {terms = t} {least = l} {most = m} x terms bou
     let ends = bounds_one (subst (λ texts. BoundsThen texts l m []) read.1 bounds) bounds' in
     ap (λ sum. Total sum l m) read.0 ∙ ap (λ least. Total t' least m) ends.0 ∙ ap (Total t' l') ends.1
 says_one (says_total x terms bounds) (says_objective y terms') = absurd (apart 0 x y refl)
+says_one (says_total x terms bounds) (says_new_group y) = absurd (apart 0 x y refl)
 says_one (says_objective x terms) (says_header y) = absurd (apart 0 x y refl)
 says_one (says_objective x terms) (says_variable y word set) = absurd (apart 0 x y refl)
 says_one (says_objective x terms) (says_distinct y words) = absurd (apart 0 x y refl)
@@ -109,6 +116,16 @@ says_one (says_objective x terms) (says_total y terms' bounds) = absurd (apart 0
 says_one (says_objective {terms = t} x terms) (says_objective y terms') =
     let more = same_rest refl (same_rest x y) in
     ap Objective (terms_one (subst (λ texts. TermsThen texts t []) more terms) terms').0
+says_one (says_objective x terms) (says_new_group y) = absurd (apart 0 x y refl)
+says_one (says_new_group x) (says_header y) = absurd (apart 0 x y refl)
+says_one (says_new_group x) (says_variable y word set) = absurd (apart 0 x y refl)
+says_one (says_new_group x) (says_distinct y words) = absurd (apart 0 x y refl)
+says_one (says_new_group x) (says_among y counting) = absurd (apart 0 x y refl)
+says_one (says_new_group x) (says_sequence y number counting) = absurd (apart 0 x y refl)
+says_one (says_new_group x) (says_gcc y scope rows) = absurd (apart 0 x y refl)
+says_one (says_new_group x) (says_total y terms bounds) = absurd (apart 0 x y refl)
+says_one (says_new_group x) (says_objective y terms) = absurd (apart 0 x y refl)
+says_one (says_new_group x) (says_new_group y) = refl
 
 -- no tokens say no statement
 pub says_nothing : {s : Statement} → Says [] s → ⊥
@@ -120,3 +137,4 @@ says_nothing (says_sequence x number counting) = apart_none refl x
 says_nothing (says_gcc x scope rows) = apart_none refl x
 says_nothing (says_total x terms bounds) = apart_none refl x
 says_nothing (says_objective x terms) = apart_none refl x
+says_nothing (says_new_group x) = apart_none refl x

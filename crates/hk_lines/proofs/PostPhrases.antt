@@ -6,7 +6,7 @@ use Rattle.hk_lines.specs.inside.Pieces.{WordThen}
 use Rattle.hk_lines.specs.Posts.{ArgText, Number, Set, Numbers, Post, NumbersThen, last_signed, more_signed, ArgThen, arg_number, arg_set, arg_numbers, ArgsThen, last_arg, more_arg, ArgListThen, no_args, some_args, IsWholeScope, SaysPost}
 use Rattle.hk_lines.specs.PostShapes.{capped_arg, capped_post, SayNoPost}
 use Rattle.hk_lines.specs.Shapes.{capped_signed, capped_values}
-use Rattle.hk_lines.specs.inside.Capped.{BeginsCapped, BeginsWithout}
+use Rattle.hk_lines.specs.inside.Capped.{BeginsCapped}
 use Rattle.hk_lines.specs.Statements.{scope_end}
 use Rattle.hk_lines.proofs.Capping.{signed_in_word}
 use Rattle.hk_lines.proofs.Finding.{signed_shorter}

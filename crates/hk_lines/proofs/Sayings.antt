@@ -5,7 +5,7 @@ use Rattle.std.proofs.Math.Decide.{map_dec}
 use Rattle.hk_text.specs.Lexemes.{IsWord}
 use Rattle.hk_lines.specs.Phrases.{Values, Term, Row, Counting, NamesThen, SetThen, TermsThen, BoundsThen, AreCounting, AreRows}
 use Rattle.hk_lines.specs.inside.Pieces.{NumberThen}
-use Rattle.hk_lines.specs.Statements.{Statement, Header, Variable, Distinct, Among, Sequence, Gcc, Total, Objective, Says, says_header, says_variable, says_distinct, says_among, says_sequence, says_gcc, says_total, says_objective, scope_end}
+use Rattle.hk_lines.specs.Statements.{Statement, Header, Variable, Distinct, Among, Sequence, Gcc, Total, Objective, NewGroup, Says, says_header, says_variable, says_distinct, says_among, says_sequence, says_gcc, says_total, says_objective, says_new_group, scope_end}
 use Rattle.hk_text.proofs.Deciding.{dec_both, dec_either, dec_all, dec_text, dec_texts, dec_word, Begins, dec_begins, After, dec_after}
 use Rattle.hk_lines.proofs.CountTexts.{dec_names, dec_counting, dec_rows}
 use Rattle.hk_lines.proofs.Finding.{Finds, dec_number_then, dec_terms, dec_whole_set, dec_whole_terms, dec_whole_bounds}
@@ -43,6 +43,9 @@ dec_closes K each (text ∷ name ∷ rest) = map_dec
 -- the texts of each statement, from part to part
 abbrev IsHeader : List (List ℕ) → Type 0
 IsHeader texts = texts ≡ codes "hkm" ∷ codes "1" ∷ []
+
+abbrev IsNewGroup : List (List ℕ) → Type 0
+IsNewGroup texts = texts ≡ codes "group" ∷ []
 
 abbrev IsVariable : List (List ℕ) → Type 0
 IsVariable texts = After (codes "var") (Begins (λ name. After (codes "in") (λ more. IsWord name × ((set : List Values) × SetThen more set [])))) texts
@@ -89,12 +92,13 @@ dec_objective = dec_after (codes "minimize") _ (dec_after (codes "(") _ dec_whol
 -- the texts of a statement of some kind
 abbrev IsSome : List (List ℕ) → Type 0
 IsSome texts =
-    ((IsHeader texts ⊎ IsVariable texts) ⊎ (IsDistinct texts ⊎ IsAmong texts))
+    (((IsHeader texts ⊎ IsNewGroup texts) ⊎ IsVariable texts) ⊎ (IsDistinct texts ⊎ IsAmong texts))
     ⊎ ((IsSequence texts ⊎ IsGcc texts) ⊎ (IsTotal texts ⊎ IsObjective texts))
 
 module _ {texts : List (List ℕ)} where
   says_some : IsSome texts → (s : Statement) × Says texts s
-  says_some (inl (inl (inl are))) = (Header, says_header are)
+  says_some (inl (inl (inl (inl are)))) = (Header, says_header are)
+  says_some (inl (inl (inl (inr are)))) = (NewGroup, says_new_group are)
   says_some (inl (inl (inr (after, is, (name, rest, parts, (more, in_, (word, (set, found)))))))) =
       (Variable name set, says_variable (is ∙ ap (λ r. codes "var" ∷ r) (parts ∙ ap (λ r. name ∷ r) in_)) word found)
   says_some (inl (inr (inl (after, is, (between, opens, (name, rest, parts, (names, ends, words))))))) =
@@ -111,7 +115,7 @@ module _ {texts : List (List ℕ)} where
       (Objective terms, says_objective (is ∙ ap (λ r. codes "minimize" ∷ r) opens) found)
 
   some_says : {s : Statement} → Says texts s → IsSome texts
-  some_says (says_header are) = inl (inl (inl are))
+  some_says (says_header are) = inl (inl (inl (inl are)))
   some_says (says_variable {more = more} {name = name} {set = set} are word found) =
       inl (inl (inr (name ∷ codes "in" ∷ more, are, (name, codes "in" ∷ more, refl, (more, refl, (word, (set, found)))))))
   some_says (says_distinct {name = name} {more = names} are words) =
@@ -126,10 +130,11 @@ module _ {texts : List (List ℕ)} where
       inr (inr (inl (codes "(" ∷ more, are, (more, refl, (terms, bounds, found, (least, most, between))))))
   some_says (says_objective {more = more} {terms = terms} are found) =
       inr (inr (inr (codes "(" ∷ more, are, (more, refl, (terms, found)))))
+  some_says (says_new_group are) = inl (inl (inl (inr are)))
 
 -- what texts say
 pub dec_says : (texts : List (List ℕ)) → Dec ((s : Statement) × Says texts s)
 dec_says texts = map_dec says_some (λ some. some_says some.1)
     (dec_either
-    (dec_either (dec_either (dec_texts texts (codes "hkm" ∷ codes "1" ∷ [])) (dec_variable texts)) (dec_either (dec_distinct texts) (dec_among texts)))
+    (dec_either (dec_either (dec_either (dec_texts texts (codes "hkm" ∷ codes "1" ∷ [])) (dec_texts texts (codes "group" ∷ []))) (dec_variable texts)) (dec_either (dec_distinct texts) (dec_among texts)))
     (dec_either (dec_either (dec_sequence texts) (dec_gcc texts)) (dec_either (dec_total texts) (dec_objective texts))))

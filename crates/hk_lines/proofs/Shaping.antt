@@ -5,7 +5,7 @@ use Rattle.hk_lines.specs.Phrases.{Values, Term, SetThen, TermsThen, BoundsThen,
 use Rattle.hk_lines.specs.inside.Pieces.{WordThen}
 use Rattle.hk_lines.specs.Shapes.{SayNothing, capped_values, capped_term, capped_statement}
 use Rattle.hk_lines.specs.inside.Capped.{BeginsCapped, AreBounds}
-use Rattle.hk_lines.specs.Statements.{Statement, Header, Variable, Distinct, Among, Sequence, Gcc, Total, Objective, Says, says_header, says_variable, says_distinct, says_among, says_sequence, says_gcc, says_total, says_objective, scope_end}
+use Rattle.hk_lines.specs.Statements.{Statement, Header, Variable, Distinct, Among, Sequence, Gcc, Total, Objective, NewGroup, Says, says_header, says_variable, says_distinct, says_among, says_sequence, says_gcc, says_total, says_objective, says_new_group, scope_end}
 use Rattle.hk_lines.proofs.Capping.{signed_in_word}
 use Rattle.hk_text.proofs.TokenTexts.{apart, same_rest}
 use Rattle.hk_lines.proofs.Phrasing.{set_one, terms_one}
@@ -19,9 +19,14 @@ SayCapped texts capped = (statement : Statement) × Says texts statement × (cap
 pub header_said : {texts : List (List ℕ)} → texts ≡ codes "hkm" ∷ codes "1" ∷ [] → SayCapped texts Header
 header_said is = (Header, says_header is, refl)
 
+-- `group` says that what follows stands in a new group
+pub new_group_said : {texts : List (List ℕ)} → texts ≡ codes "group" ∷ [] → SayCapped texts NewGroup
+new_group_said is = (NewGroup, says_new_group is, refl)
+
 -- texts without a first word of a statement say nothing
 pub nothing_said : {texts : List (List ℕ)}
     → (texts ≡ codes "hkm" ∷ codes "1" ∷ [] → ⊥)
+    → (texts ≡ codes "group" ∷ [] → ⊥)
     → ((rest : List (List ℕ)) → texts ≡ codes "var" ∷ rest → ⊥)
     → ((rest : List (List ℕ)) → texts ≡ codes "alldifferent" ∷ rest → ⊥)
     → ((rest : List (List ℕ)) → texts ≡ codes "among" ∷ rest → ⊥)
@@ -30,14 +35,15 @@ pub nothing_said : {texts : List (List ℕ)}
     → ((rest : List (List ℕ)) → texts ≡ codes "sum" ∷ rest → ⊥)
     → ((rest : List (List ℕ)) → texts ≡ codes "minimize" ∷ rest → ⊥)
     → SayNothing texts
-nothing_said header variable distinct among sequence gcc total objective Header (says_header x) = header x
-nothing_said header variable distinct among sequence gcc total objective (Variable n s) (says_variable x word set) = variable _ x
-nothing_said header variable distinct among sequence gcc total objective (Distinct ns) (says_distinct x words) = distinct _ x
-nothing_said header variable distinct among sequence gcc total objective (Among c) (says_among x counting) = among _ x
-nothing_said header variable distinct among sequence gcc total objective (Sequence w c) (says_sequence x number counting) = sequence _ x
-nothing_said header variable distinct among sequence gcc total objective (Gcc ns rs) (says_gcc x scope rows) = gcc _ x
-nothing_said header variable distinct among sequence gcc total objective (Total ts l m) (says_total x terms bounds) = total _ x
-nothing_said header variable distinct among sequence gcc total objective (Objective ts) (says_objective x terms) = objective _ x
+nothing_said header group variable distinct among sequence gcc total objective Header (says_header x) = header x
+nothing_said header group variable distinct among sequence gcc total objective (Variable n s) (says_variable x word set) = variable _ x
+nothing_said header group variable distinct among sequence gcc total objective (Distinct ns) (says_distinct x words) = distinct _ x
+nothing_said header group variable distinct among sequence gcc total objective (Among c) (says_among x counting) = among _ x
+nothing_said header group variable distinct among sequence gcc total objective (Sequence w c) (says_sequence x number counting) = sequence _ x
+nothing_said header group variable distinct among sequence gcc total objective (Gcc ns rs) (says_gcc x scope rows) = gcc _ x
+nothing_said header group variable distinct among sequence gcc total objective (Total ts l m) (says_total x terms bounds) = total _ x
+nothing_said header group variable distinct among sequence gcc total objective (Objective ts) (says_objective x terms) = objective _ x
+nothing_said header group variable distinct among sequence gcc total objective NewGroup (says_new_group x) = group x
 
 -- the parts of a variable's texts after the first
 record VariableParts (texts : List (List ℕ)) : Type 0 where
@@ -56,6 +62,7 @@ variable_parts (says_sequence x number counting) is = absurd (apart 0 x is refl)
 variable_parts (says_gcc x scope rows) is = absurd (apart 0 x is refl)
 variable_parts (says_total x terms bounds) is = absurd (apart 0 x is refl)
 variable_parts (says_objective x terms) is = absurd (apart 0 x is refl)
+variable_parts (says_new_group x) is = absurd (apart 0 x is refl)
 
 -- the names of a scope whose texts these are
 record DistinctParts (texts : List (List ℕ)) : Type 0 where
@@ -78,6 +85,7 @@ distinct_parts (says_sequence x number counting) is = absurd (apart 0 x is refl)
 distinct_parts (says_gcc x scope rows) is = absurd (apart 0 x is refl)
 distinct_parts (says_total x terms bounds) is = absurd (apart 0 x is refl)
 distinct_parts (says_objective x terms) is = absurd (apart 0 x is refl)
+distinct_parts (says_new_group x) is = absurd (apart 0 x is refl)
 
 -- the terms of a sum and its bounds
 record TotalParts (texts : List (List ℕ)) : Type 0 where
@@ -100,6 +108,7 @@ total_parts (says_gcc x scope rows) is = absurd (apart 0 x is refl)
 total_parts (says_total {more = more} {bounds = rest} {terms = terms} {least = least} {most = most} x phrase bounds) is =
     record { inner = more; rest = rest; terms = terms; least = least; most = most; parts = same_rest is x; phrase = phrase; bounds = bounds }
 total_parts (says_objective x terms) is = absurd (apart 0 x is refl)
+total_parts (says_new_group x) is = absurd (apart 0 x is refl)
 
 -- the terms of an objective
 record ObjectiveParts (texts : List (List ℕ)) : Type 0 where
@@ -117,6 +126,7 @@ objective_parts (says_sequence x number counting) is = absurd (apart 0 x is refl
 objective_parts (says_gcc x scope rows) is = absurd (apart 0 x is refl)
 objective_parts (says_total x terms bounds) is = absurd (apart 0 x is refl)
 objective_parts (says_objective {more = more} {terms = terms} x phrase) is = record { inner = more; terms = terms; parts = same_rest is x; phrase = phrase }
+objective_parts (says_new_group x) is = absurd (apart 0 x is refl)
 
 -- a sum is determined by its terms and its bounds
 same_total : {ts ts' : List Term} {l l' m m' : ℤ} → ts ≡ ts' → l ≡ l' → m ≡ m' → Total ts l m ≡ Total ts' l' m'

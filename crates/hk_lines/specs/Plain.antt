@@ -5,9 +5,9 @@ use Rattle.hk_lines.specs.declared.phrases.Term.{Term as ReadTerm}
 use Rattle.hk_lines.specs.declared.counts.Counting.{Counting as ReadCounting}
 use Rattle.hk_lines.specs.declared.counts.Row.{Row as ReadRow}
 use Rattle.hk_lines.specs.declared.shapes.Shape.{Shape}
-use Rattle.hk_lines.specs.declared.shapes.Shape.TheVariants.{Start, Variable as VariableShape, Distinct as DistinctShape, Among as AmongShape, Sequence as SequenceShape, Gcc as GccShape, Total as TotalShape, Objective as ObjectiveShape}
+use Rattle.hk_lines.specs.declared.shapes.Shape.TheVariants.{Start, Variable as VariableShape, Distinct as DistinctShape, Among as AmongShape, Sequence as SequenceShape, Gcc as GccShape, Total as TotalShape, Objective as ObjectiveShape, NewGroup as NewGroupShape}
 use Rattle.hk_lines.specs.Phrases.{Values, Term, Row, Counting}
-use Rattle.hk_lines.specs.Statements.{Statement, Header, Variable, Distinct, Among, Sequence, Gcc, Total, Objective}
+use Rattle.hk_lines.specs.Statements.{Statement, Header, Variable, Distinct, Among, Sequence, Gcc, Total, Objective, NewGroup}
 
 -- values that were read
 abbrev pub plain_values : ReadValues → Values
@@ -47,3 +47,4 @@ statement_of (SequenceShape window counting) = Sequence window (plain_counting c
 statement_of (GccShape names rows) = Gcc (map (λ name. name.now) names) (rows_of rows)
 statement_of (TotalShape terms least most) = Total (terms_of terms) least most
 statement_of (ObjectiveShape terms) = Objective (terms_of terms)
+statement_of NewGroupShape = NewGroup

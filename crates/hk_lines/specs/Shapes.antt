@@ -4,7 +4,7 @@ use Rattle.hk_lines.specs.Limits.{above_limits}
 use Rattle.hk_lines.specs.declared.shapes.Shape.{Shape}
 use Rattle.hk_lines.specs.Plain.{statement_of}
 use Rattle.hk_lines.specs.Phrases.{Values, Term, Row, Counting}
-use Rattle.hk_lines.specs.Statements.{Statement, Header, Variable, Distinct, Among, Sequence, Gcc, Total, Objective, Says}
+use Rattle.hk_lines.specs.Statements.{Statement, Header, Variable, Distinct, Among, Sequence, Gcc, Total, Objective, NewGroup, Says}
 
 -- the number, or one above all limits where it is greater
 abbrev pub capped : ℕ → ℕ
@@ -41,6 +41,7 @@ capped_statement (Sequence window counting) = Sequence (capped window) (capped_c
 capped_statement (Gcc names rows) = Gcc names (map capped_row rows)
 capped_statement (Total terms least most) = Total (map capped_term terms) (capped_signed least) (capped_signed most)
 capped_statement (Objective terms) = Objective (map capped_term terms)
+capped_statement NewGroup = NewGroup
 
 -- the shape is that of the statement, with its numbers capped
 abbrev pub HasShape : Shape → Statement → Type 0

@@ -11,7 +11,8 @@ scope_end (name ∷ more) = codes "," ∷ name ∷ scope_end more
 
 -- what a line says: the header; a variable with its name and its set; that variables differ;
 -- how many of some variables take values of a set; the same for each window of so many of them that stand next to each other;
--- how many of some variables take each of some values; that a sum of terms lies between two bounds; that a sum of terms is to be least
+-- how many of some variables take each of some values; that a sum of terms lies between two bounds; that a sum of terms is to be least;
+-- that what follows stands in a new group
 pub data Statement : Type 0 where
   Header : Statement
   Variable : (name : List ℕ) (set : List Values) → Statement
@@ -21,10 +22,11 @@ pub data Statement : Type 0 where
   Gcc : (names : List (List ℕ)) (rows : List Row) → Statement
   Total : (terms : List Term) (least most : ℤ) → Statement
   Objective : (terms : List Term) → Statement
+  NewGroup : Statement
 
 -- the tokens of a line say a statement: `hkm 1`; `var NAME in SET`; `alldifferent (NAME, NAME)`; `among (NAME, NAME) SET LEAST..MOST`;
 -- `sequence WINDOW (NAME, NAME) SET LEAST..MOST`; `gcc (NAME, NAME) VALUE : LEAST..MOST, VALUE : LEAST..MOST`; `sum (TERM, TERM) LEAST..MOST`;
--- `minimize (TERM, TERM)`: with one name or more, one row or more, one term or more
+-- `minimize (TERM, TERM)`; `group`: with one name or more, one row or more, one term or more
 pub data Says : List (List ℕ) → Statement → Type 0 where
   says_header : {texts : List (List ℕ)} → texts ≡ codes "hkm" ∷ codes "1" ∷ [] → Says texts Header
   says_variable : {texts more : List (List ℕ)} {name : List ℕ} {set : List Values}
@@ -42,3 +44,4 @@ pub data Says : List (List ℕ) → Statement → Type 0 where
       → texts ≡ codes "sum" ∷ codes "(" ∷ more → TermsThen more terms bounds → BoundsThen bounds least most [] → Says texts (Total terms least most)
   says_objective : {texts more : List (List ℕ)} {terms : List Term}
       → texts ≡ codes "minimize" ∷ codes "(" ∷ more → TermsThen more terms [] → Says texts (Objective terms)
+  says_new_group : {texts : List (List ℕ)} → texts ≡ codes "group" ∷ [] → Says texts NewGroup

@@ -3,14 +3,12 @@
 #![tactic(auto)]
 
 pub use counts::{Counting, Row};
-pub use later::begins_later;
 pub use phrases::{Term, Values};
 pub use posts::{PostArg, PostShape, post_of};
 pub use sets::set_of_values;
 pub use shapes::{Shape, shape_of};
 
 mod counts;
-mod later;
 mod phrases;
 mod posts;
 mod sets;

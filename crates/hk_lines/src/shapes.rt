@@ -49,6 +49,8 @@ pub enum Shape<'a> {
     Objective {
         terms: List<Term<'a>>,
     },
+    /// `group`
+    NewGroup,
 }
 
 /// The shape of a line's tokens, where they have one.
@@ -63,6 +65,9 @@ pub fn shape_of<'a>(
 {
     if is_start(line, tokens) {
         return Ok(Some(Shape::Start));
+    }
+    if is_new_group(line, tokens) {
+        return Ok(Some(Shape::NewGroup));
     }
     if let Some(rest) = after_text(line, tokens, b"var") {
         return variable_of(alloc, line, rest);
@@ -95,6 +100,17 @@ fn is_start(line: &[u8], tokens: &[Token]) -> bool
 {
     match tokens {
         [word, version] => has_text(line, *word, b"hkm") && has_text(line, *version, b"1"),
+        _ => false,
+    }
+}
+
+/// Whether the tokens are the one word `group`.
+fn is_new_group(line: &[u8], tokens: &[Token]) -> bool
+    requires { All (IsTokenIn line.now) tokens.now }
+    ensures { IsTrue result ↔ (texts_of line.now tokens.now ≡ codes "group" ∷ []) }
+{
+    match tokens {
+        [word] => has_text(line, *word, b"group"),
         _ => false,
     }
 }
