@@ -1,5 +1,5 @@
 -- What is written where the initial values of parts are written part after part.
-use Rattle.std.proofs.Common.{◌≡◌, ℕ, ◌+◌, ◌<◌, ◌≤◌, List, [], ◌∷◌, ◌++◌, length, take, drop, get_or, arith, ap, refl, sym, ◌∙◌, subst}
+use Rattle.std.proofs.Common.{◌≡◌, ℕ, ◌+◌, ◌<◌, ◌≤◌, List, [], ◌∷◌, ◌++◌, length, take, drop, get_or, arith, ap, sym, ◌∙◌, subst}
 use Rattle.std.proofs.lemmas.List.{length-append, length-drop, length-map, take_all, drop_all, append-nil}
 use Rattle.hk_kinds.specs.Parts.{with_part}
 use Rattle.hk_kinds.specs.declared.properties.Prop.{Prop}

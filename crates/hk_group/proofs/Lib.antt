@@ -2,6 +2,7 @@ pub mod Begun
 pub mod Counts
 pub mod Distinct
 pub mod GroupCalls
+pub mod GroupScopes
 pub mod MoreVariables
 pub mod PartRuns
 pub mod PartStates
@@ -10,9 +11,11 @@ pub mod PartsRevised
 pub mod PartsWithoutBest
 pub mod Places
 pub mod Plans
+pub mod SetSizes
 pub mod SumSizes
 pub mod Sums
 pub mod Tested
 pub mod Unions
+pub mod WidthSizes
 pub mod Windows
 pub mod Written

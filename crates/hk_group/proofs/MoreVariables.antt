@@ -28,7 +28,7 @@ pub constraint_more : (m n : ℕ) → m ≤ n → (c : Constraint) → IsConstra
 constraint_more m n more (AllDifferent scope) c = scope_more m n more scope c
 constraint_more m n more (Among scope set least most) c = among_more m n more scope set least most c
 constraint_more m n more (Sequence scope window set least most) c = record { counts = among_more m n more scope set least most c.counts; some = c.some; short = c.short }
-constraint_more m n more (Gcc scope rows) c = record { over = scope_more m n more scope c.over; each = c.each; once = c.once }
+constraint_more m n more (Gcc scope rows) c = record { over = scope_more m n more scope c.over; some = c.some; each = c.each; once = c.once }
 constraint_more m n more (Sum scope coefs least most) c = (linear_more m n more scope coefs c.0, c.1, c.2)
 constraint_more m n more (User bound scope) c = (scope_more m n more scope c.0, c.1)
 

@@ -1,6 +1,6 @@
 -- What is left of the tests of parts where they are tried part after part.
-use Rattle.std.proofs.Common.{◌≡◌, ℕ, ℤ, Bool, true, false, ◌&&◌, ◌+◌, ◌<◌, ◌≤◌, List, ◌∷◌, length, drop, get_or, Option, None, arith, ap, refl, sym, ◌∙◌, subst}
-use Rattle.std.proofs.lemmas.List.{length-drop, drop-drop, drop_more, drop_all}
+use Rattle.std.proofs.Common.{◌≡◌, ℕ, ℤ, Bool, true, ◌&&◌, ◌+◌, ◌<◌, ◌≤◌, List, ◌∷◌, length, drop, get_or, Option, None, arith, ap, sym, ◌∙◌, subst}
+use Rattle.std.proofs.lemmas.List.{length-drop, drop-drop, drop_more}
 use Rattle.std.proofs.lemmas.Slice.Zip.{AllZip-long}
 use Rattle.hk_kinds.specs.Parts.{part_at}
 use Rattle.hk_kinds.specs.Shapes.{HasShape}

@@ -1,17 +1,15 @@
 -- What is written over a state part after part.
-use Rattle.std.proofs.Common.{◌≡◌, ℕ, ◌+◌, ◌<◌, ◌≤◌, List, [], ◌∷◌, ◌++◌, length, map, take, drop, set, get_or, slice_get, Option, None, Some, arith, ap, refl, sym, ◌∙◌, subst}
+use Rattle.std.proofs.Common.{◌≡◌, ℕ, ◌+◌, ◌<◌, ◌≤◌, List, [], ◌∷◌, ◌++◌, length, take, drop, get_or, Option, None, arith, ap, sym, ◌∙◌, subst}
 use Rattle.std.proofs.lemmas.Grind.{common_steps}
 use Rattle.std.proofs.lemmas.List.{drop-drop, drop_more, length-append, length-drop, length-map, length-take-le, take_all, drop_all, append-nil}
 use Rattle.std.proofs.lemmas.Slice.Zip.{AllZip-long}
-use Rattle.std.proofs.lemmas.Option.{get_or_from_slice_get}
 use Rattle.hk_kinds.proofs.StateLaws.{length-HasShape}
 use Rattle.hk_kinds.specs.Parts.{part_at, with_part}
 use Rattle.hk_kinds.specs.Shapes.{HasShape}
 use Rattle.hk_kinds.specs.declared.properties.Prop.{Prop}
 use Rattle.hk_spec.specs.Specifications.{IsBound, down_shape, up_shape}
-use Rattle.hk_spec.proofs.PartLaws.{step_written}
 use Rattle.hk_group.specs.Groups.{Part, down_at, up_at, down_width, up_width, down_shape_of, up_shape_of}
-use Rattle.hk_group.specs.inside.Placed.{IsPlaceOf, ArePlaces, down_by, up_by}
+use Rattle.hk_group.specs.inside.Placed.{ArePlaces, down_by, up_by}
 use Rattle.hk_group.proofs.PartStates.{take_front, length-down_at, length-up_at}
 use Rattle.hk_group.proofs.PartsRevised.{down_shape_front, down_shape_back, up_shape_front, up_shape_back}
 

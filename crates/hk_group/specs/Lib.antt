@@ -1,8 +1,10 @@
 pub mod Composed
+pub mod Grouping
 pub mod GroupRevisions
 pub mod GroupRuns
 pub mod Groups
 pub mod Limits
 pub mod Problems
 pub mod Solutions
+pub mod Widths
 pub mod inside

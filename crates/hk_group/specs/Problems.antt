@@ -8,14 +8,18 @@ use Rattle.hk_spec.specs.Specifications.{BoundSpecification, IsBound, IsWithoutB
 use Rattle.hk_group.specs.declared.problem.Constraint.{Constraint}
 use Rattle.hk_group.specs.declared.problem.Constraint.TheVariants.{AllDifferent, Among, Sequence, Gcc, Sum, User}
 use Rattle.hk_group.specs.declared.linear.Linear.{Linear}
-use Rattle.hk_group.specs.Limits.{most_variables, value_count, most_name_bytes, most_constraints, most_window, greatest_coefficient}
+use Rattle.hk_group.specs.Groups.{PlainGroup, IsGroup}
+use Rattle.hk_group.specs.Grouping.{HaveParts, parts_in}
+use Rattle.hk_group.specs.Limits.{most_variables, value_count, most_name_bytes, most_constraints, most_groups, most_window, greatest_coefficient}
 use Rattle.hk_base.specs.Limits.{number_limit}
 
--- a problem: for each variable its name and its set of values, the constraints, and the objective, where there is one
+-- a problem: for each variable its name and its set of values, the constraints, the groups that share a diagram each, and
+-- the objective, where there is one. Groups are no part of what a problem means
 pub record PlainProblem : Type 0 where
   pub names : List (List ℕ)
   pub domains : List ℕ
   pub constraints : List Constraint
+  pub groups : List PlainGroup
   pub objective : Option Linear
 
 -- the scope is at least one of that many variables, in the order of their declaration
@@ -51,9 +55,10 @@ pub record IsRow (row : ℕ × ℤ × ℤ) : Type 0 where
   pub small : row.0 < value_count
   pub bounds : AreBounds row.1 row.2
 
--- the scope is one of that many variables, and no two of the rows are of one value
+-- the scope is one of that many variables, and there are rows, no two of one value
 pub record IsGcc (variables : ℕ) (scope : List ℕ) (rows : List (ℕ × ℤ × ℤ)) : Type 0 where
   pub over : IsScope variables scope
+  pub some : 0 < length rows
   pub each : All IsRow rows
   pub once : AllPairs (λ row other. row.0 ≢ other.0) rows
 
@@ -87,7 +92,8 @@ pub record IsDomain (domain : ℕ) : Type 0 where
   pub least : ℕ
   pub some : Has domain least
 
--- the problem is within the limits, and its constraints and its objective are about its variables
+-- the problem is within the limits, its constraints and its objective are about its variables, and the parts of its groups
+-- are those of its constraints and of its objective
 pub record IsValid (p : PlainProblem) : Type 0 where
   pub named : length p.names ≡ length p.domains
   pub variables : length p.names ≤ most_variables
@@ -96,3 +102,6 @@ pub record IsValid (p : PlainProblem) : Type 0 where
   pub few : length p.constraints ≤ most_constraints
   pub constraints : All (IsConstraint (length p.names)) p.constraints
   pub objective : IfSome p.objective (λ linear. IsLinear (length p.names) linear.scope linear.coefs)
+  pub few_groups : length p.groups ≤ most_groups
+  pub groups : All IsGroup p.groups
+  pub parts : HaveParts p.constraints p.objective (parts_in p.groups)

@@ -20,6 +20,7 @@ mod shapes;
 mod stepping;
 mod testing;
 mod union;
+mod widths;
 mod writing;
 
 pub use composing::compose;
@@ -27,10 +28,11 @@ pub use faults::GroupFault;
 pub use group::Group;
 pub use judging::judge;
 pub use laws::{
-    group_acceptance_without_best, group_accepts_where_parts_do, group_steps_keep_the_shape,
-    group_tests_without_best, monotone_parts_make_a_monotone_group,
-    revisable_parts_make_a_revisable_group,
+    fitting_widths_fit_each_group, group_acceptance_without_best, group_accepts_where_parts_do,
+    group_steps_keep_the_shape, group_tests_without_best, monotone_parts_make_a_monotone_group,
+    revisable_parts_make_a_revisable_group, valid_groups_have_scopes,
 };
 pub use linear::Linear;
-pub use problem::{Constraint, Constraints, Names, Problem};
+pub use problem::{Constraint, Constraints, Groups, Names, Problem};
 pub use scopes::{Scopes, is_rising};
+pub use widths::fits;

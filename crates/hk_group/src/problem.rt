@@ -3,6 +3,7 @@
 ghost use Rattle.std.specs.Prelude.{◌≡◌};
 ghost use Rattle.hk_group.specs.Problems.{IsValid};
 
+use crate::group::Group;
 use crate::linear::Linear;
 use hk_base::{Bytes, List};
 use hk_spec::Bound;
@@ -13,6 +14,9 @@ pub type Names = List<Bytes>;
 
 /// The constraints, in the order of their lines.
 pub type Constraints = List<Constraint>;
+
+/// The groups, in the order of their lines.
+pub type Groups = List<Group>;
 
 /// A constraint. A scope lists variables by their places, from 0, in the order of declaration.
 #[derive(Debug, Drop)]
@@ -58,46 +62,50 @@ pub enum Constraint {
     },
 }
 
-/// A valid problem: for each variable a name and a nonempty set of values, the constraints, and the
-/// objective, where there is one: the sum that is to be least. Bit v of a set stands for the value v,
-/// from 0 to 127.
+/// A valid problem: for each variable a name and a nonempty set of values, the constraints, the groups
+/// of them that share a diagram, and the objective, where there is one: the sum that is to be least.
+/// Bit v of a set stands for the value v, from 0 to 127. Groups are no part of what a problem means.
 #[derive(Debug, Drop)]
 pub struct Problem {
     names: Names,
     domains: List<u128>,
     constraints: Constraints,
+    groups: Groups,
     objective: Option<Linear>,
 }
 
 impl Model for Problem {
     ghost use Rattle.std.specs.Coded.{codes};
+    ghost use Rattle.hk_group.specs.contracts.group.Group as composed;
     ghost use Rattle.hk_spec.specs.contracts.bindings.Bound as bound;
     ghost use Rattle.hk_group.specs.Problems.{PlainProblem, IsValid};
 
     ghost Value = { PlainProblem };
 
-    ghost coded = { Prim.hlevel (codes, bound.the_row.coded) };
+    ghost coded = { Prim.hlevel (codes, bound.the_row.coded, composed.the_row.coded) };
 
-    ghost view = { λ p. record { names = p.names; domains = p.domains; constraints = p.constraints; objective = p.objective } };
+    ghost view = { λ p. record { names = p.names; domains = p.domains; constraints = p.constraints; groups = p.groups; objective = p.objective } };
 
-    ghost invariant = { λ p. IsValid (record { names = p.names; domains = p.domains; constraints = p.constraints; objective = p.objective }) };
+    ghost invariant = { λ p. IsValid (record { names = p.names; domains = p.domains; constraints = p.constraints; groups = p.groups; objective = p.objective }) };
 }
 
 impl Problem {
-    /// The problem with these names, sets, constraints and objective.
+    /// The problem with these names, sets, constraints, groups and objective.
     pub fn new(
         names: Names,
         domains: List<u128>,
         constraints: Constraints,
+        groups: Groups,
         objective: Option<Linear>,
     ) -> Problem
-        requires valid { IsValid (record { names = names; domains = domains; constraints = constraints; objective = objective }) }
-        ensures { result ≡ record { names = names; domains = domains; constraints = constraints; objective = objective } }
+        requires valid { IsValid (record { names = names; domains = domains; constraints = constraints; groups = groups; objective = objective }) }
+        ensures { result ≡ record { names = names; domains = domains; constraints = constraints; groups = groups; objective = objective } }
     {
         Problem {
             names,
             domains,
             constraints,
+            groups,
             objective,
         }
     }
@@ -123,6 +131,14 @@ impl Problem {
         ensures valid { IsValid self.now }
     {
         self.constraints.as_slice()
+    }
+
+    /// The groups, in the order of their lines.
+    pub fn groups(&self) -> &[Group]
+        ensures groups { result.now ≡ self.now.groups }
+        ensures valid { IsValid self.now }
+    {
+        self.groups.as_slice()
     }
 
     /// What is to be least, where the problem says so.
