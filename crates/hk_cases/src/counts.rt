@@ -58,7 +58,7 @@ const BAD_LINES: &[(&str, RefusalKind)] = &[
     ("gcc (x) 1:0..1,", RefusalKind::Syntax),
     ("gcc (x) 1 0..1", RefusalKind::Syntax),
     ("gcc () 1:0..1", RefusalKind::Syntax),
-    ("group", RefusalKind::Later),
+    ("group (x)", RefusalKind::Syntax),
 ];
 
 /// Lines that are good, but for the number of those before them.

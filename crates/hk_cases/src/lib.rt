@@ -13,6 +13,8 @@ mod blocks;
 #[cfg(test)]
 mod counts;
 #[cfg(test)]
+mod groups;
+#[cfg(test)]
 mod models;
 #[cfg(test)]
 mod texts;

@@ -270,7 +270,8 @@ const BAD_MODELS: &[Refused] = &[
         4,
         RefusalKind::Name,
     ),
-    ("hkm 1\nvar x in 0..1\ngroup", 3, RefusalKind::Later),
+    ("hkm 1\nvar x in 0..1\ngroup x", 3, RefusalKind::Syntax),
+    ("group\nhkm 1", 1, RefusalKind::Syntax),
 ];
 
 const BAD_SPECIFICATIONS: &[Refused] = &[

@@ -1,11 +1,11 @@
 -- What the tests of an among, a sequence and a gcc find in what was read.
-use Rattle.std.proofs.Common.{◌≡◌, Bor, ℕ, ◌+◌, ◌<◌, ◌≤◌, List, [], ◌∷◌, ◌++◌, length, get_or, map, take, sym, ap, subst, ◌∙◌}
+use Rattle.std.proofs.Common.{◌≡◌, ◌==◌, Bor, ℕ, false, true≢false, arith, ◌+◌, ◌<◌, ◌≤◌, List, [], ◌∷◌, ◌++◌, length, get_or, map, take, sym, ap, subst, ◌∙◌}
 use Rattle.std.specs.Prelude.{All}
 use Rattle.std.proofs.lemmas.List.{get_or-map, length-map, map-append, take_more}
 use Rattle.std.proofs.lemmas.List.Elements.{All-nil, All-cons, All-head, All-tail}
 use Rattle.std.proofs.lemmas.Simd.{map-map}
 use Rattle.hk_group.specs.Limits.{value_count, most_constraints}
-use Rattle.hk_group.specs.Problems.{PlainProblem}
+use Rattle.hk_draft.specs.Drafts.{PlainDraft, HasGroup}
 use Rattle.hk_lines.specs.declared.counts.Counting.{Counting as ReadCounting}
 use Rattle.hk_lines.specs.declared.counts.Row.{Row as ReadRow}
 use Rattle.hk_lines.specs.Plain.{plain_counting, plain_row, rows_of}
@@ -15,13 +15,13 @@ use Rattle.hk_draft.specs.inside.Fits.{FitsCounting}
 use Rattle.hk_draft.proofs.SmallSets.{AreSmallValues, small_items, items_small}
 
 -- what was read of a counting fits where its parts do
-pub counting_fits : (counting : ReadCounting) (before : PlainProblem) → length before.constraints < most_constraints → AreSmallValues counting.set → counting.least ≤ most_times → counting.most ≤ most_times → FitsCounting (plain_counting counting) before
-counting_fits counting before room set least most =
+pub counting_fits : (counting : ReadCounting) (before : PlainDraft) → length before.constraints < most_constraints → HasGroup before → AreSmallValues counting.set → counting.least ≤ most_times → counting.most ≤ most_times → FitsCounting (plain_counting counting) before
+counting_fits counting before room group set least most =
     let items = small_items counting.set set in
-    record { room = room; small = record { ordered = items.0; within = items.1; least_fits = least; most_fits = most } }
+    record { room = room; group = group; small = record { ordered = items.0; within = items.1; least_fits = least; most_fits = most } }
 
 -- its set then has small values
-pub set_fits : (counting : ReadCounting) (before : PlainProblem) → FitsCounting (plain_counting counting) before → AreSmallValues counting.set
+pub set_fits : (counting : ReadCounting) (before : PlainDraft) → FitsCounting (plain_counting counting) before → AreSmallValues counting.set
 set_fits counting before fits = items_small counting.set fits.small.ordered fits.small.within
 
 -- any row
@@ -31,6 +31,11 @@ any_row = record { value = 0; digits = record { ref_ptr = (0, 0); now = [] }; le
 -- a row that was read is within the limits
 abbrev pub IsSmallRead : ReadRow → Type 0
 IsSmallRead row = (row.value < value_count) × (row.least ≤ most_times) × (row.most ≤ most_times)
+
+-- rows that were read and aren't none are some
+pub rows_some : (rows : List ReadRow) → (length rows == 0) ≡ false → 0 < length (rows_of rows)
+rows_some [] none = absurd (true≢false none)
+rows_some (row ∷ rows) some = omega arith
 
 pub rows_small : (rows : List ReadRow) → All IsSmallRead rows → All IsSmallRow (rows_of rows)
 rows_small [] small = All-nil IsSmallRow

@@ -13,9 +13,10 @@ use Rattle.hk_draft.specs.inside.Fits.{FitsTotal, AddsDistinct, AddsTotal, AddsL
 use Rattle.hk_lines.specs.declared.shapes.Shape.{Shape}
 use Rattle.hk_draft.specs.declared.faults.LineFault.{LineFault}
 use Rattle.hk_draft.specs.declared.faults.LineFault.TheVariants.{Bad, NoMemory}
-use Rattle.hk_draft.specs.Faults.{IsFaultyStatement, IsStatementFault, IsPlaceFault, used_names, IsNameFault, not_declared, second_objective, IsLimitFault, no_value, large_value, turned_range, many_differ, many_totals, large_least, large_most, large_total_coef, large_coef}
+use Rattle.hk_draft.specs.Faults.{IsFaultyStatement, IsStatementFault, IsPlaceFault, used_names, IsNameFault, not_declared, second_objective, IsLimitFault, no_value, large_value, turned_range, many_differ, many_totals, large_least, large_most, large_total_coef, large_coef, no_group}
 use Rattle.hk_lines.specs.Phrases.{Values, Term}
-use Rattle.hk_group.specs.Problems.{PlainProblem, IsWithin}
+use Rattle.hk_group.specs.Problems.{IsWithin}
+use Rattle.hk_draft.specs.Drafts.{PlainDraft, HasGroup}
 use Rattle.hk_lines.specs.Statements.{Statement, Variable, Distinct, Total, Objective}
 use Rattle.hk_draft.specs.Declares.{place_of, term_names, term_coefs, Declares, declares_distinct, declares_total, declares_objective}
 use Rattle.hk_draft.proofs.Effects.{dec_coefficient, no_places_of}
@@ -31,7 +32,7 @@ some_large (term ∷ terms) some = by (dec_coefficient term.coef) (λ within. so
     by (no large) later = any_first (λ coef. IsWithin greatest_coefficient coef → ⊥) term.coef (term_coefs (terms_of terms)) large
 
 -- a set without items has no value
-pub nothing_fits : (before : PlainProblem) (name : List ℕ) (set : List ReadValues) → (length set == 0) ≡ true → IsLimitFault before (Variable name (values_of set))
+pub nothing_fits : (before : PlainDraft) (name : List ℕ) (set : List ReadValues) → (length set == 0) ≡ true → IsLimitFault before (Variable name (values_of set))
 nothing_fits before name [] none = no_value
 nothing_fits before name (values ∷ set) none =
     let zero : length (values ∷ set) ≡ 0 = grind (arith, nat_tests) in
@@ -51,7 +52,7 @@ some_at P set k within p =
     (k, here, omega (arith, within, long), is, p)
 
 -- a set with such values passes a limit
-pub some_passes : (before : PlainProblem) (name : List ℕ) (set : List ReadValues) → (k : ℕ) × (k < length set) × HoldsAt PassesLimit set k → IsLimitFault before (Variable name (values_of set))
+pub some_passes : (before : PlainDraft) (name : List ℕ) (set : List ReadValues) → (k : ℕ) × (k < length set) × HoldsAt PassesLimit set k → IsLimitFault before (Variable name (values_of set))
 some_passes before name set (k, within, at) =
     ⊎_elim
     (λ great. large_value (some_at (λ values. value_count ≤ values.last) set k within great))
@@ -59,11 +60,11 @@ some_passes before name set (k, within, at) =
     (at (record { first = 0; last = 0 }))
 
 -- names without places are a fault of the statement that uses them
-pub place_fault : (before : PlainProblem) (s : Statement) (fault : LineFault) → IsPlaceFault before.names (used_names s) fault → IsStatementFault (Some before) s fault
+pub place_fault : (before : PlainDraft) (s : Statement) (fault : LineFault) → IsPlaceFault before.names (used_names s) fault → IsStatementFault (Some before) s fault
 place_fault before s (Bad kind) (is, none) = subst (IsFaultyStatement (Some before) s) (sym is) (not_declared none)
 place_fault before s NoMemory nothing = tt
 
-module _ {before : PlainProblem} (scope : List ℕ) where
+module _ {before : PlainDraft} (scope : List ℕ) where
   -- where the names of a scope have places, there is no fault of a name
   pub distinct_named : {names : List (List ℕ)} → map (place_of before.names) names ≡ map Some scope → IsNameFault before (Distinct names) → ⊥
   distinct_named {names = names} places (not_declared none) = no_places_of before.names names none scope places
@@ -76,8 +77,9 @@ module _ {before : PlainProblem} (scope : List ℕ) where
   objective_named places new (second_objective some) = new some
 
 -- where there is room for a constraint, its scope passes no limit
-pub distinct_fits : {before : PlainProblem} {names : List (List ℕ)} → length before.constraints < most_constraints → IsLimitFault before (Distinct names) → ⊥
-distinct_fits room (many_differ many) = omega (arith, room, many)
+pub distinct_fits : {before : PlainDraft} {names : List (List ℕ)} → length before.constraints < most_constraints → HasGroup before → IsLimitFault before (Distinct names) → ⊥
+distinct_fits room group (many_differ many) = omega (arith, room, many)
+distinct_fits room group (no_group content none) = none group
 
 -- the coefficients of terms that are each within the limit
 small_coefs : (terms : List ReadTerm) → All (λ term. IsWithin greatest_coefficient term.coef) terms → All (IsWithin greatest_coefficient) (term_coefs (terms_of terms))
@@ -88,27 +90,29 @@ no_large : (terms : List ReadTerm) → All (λ term. IsWithin greatest_coefficie
 no_large terms all some = each_not_some (IsWithin greatest_coefficient) (λ coef. IsWithin greatest_coefficient coef → ⊥) (λ coef within large. large within) (term_coefs (terms_of terms)) (small_coefs terms all) some
 
 -- a sum that passes no limit has no fault of one
-pub total_fits : {before : PlainProblem} {terms : List ReadTerm} {least most : ℤ} → FitsTotal terms least most before → IsLimitFault before (Total (terms_of terms) least most) → ⊥
+pub total_fits : {before : PlainDraft} {terms : List ReadTerm} {least most : ℤ} → FitsTotal terms least most before → IsLimitFault before (Total (terms_of terms) least most) → ⊥
 total_fits fits (many_totals many) = let room = fits.room in omega (arith, room, many)
 total_fits fits (large_least large) = large fits.least_fits
 total_fits fits (large_most large) = large fits.most_fits
 total_fits {terms = terms} fits (large_total_coef some) = no_large terms fits.coefs_fit some
+total_fits fits (no_group content none) = none fits.group
 
 -- nor has an objective whose coefficients are within the limit
-pub objective_fits : {before : PlainProblem} (terms : List ReadTerm) → All (λ term. IsWithin greatest_coefficient term.coef) terms → IsLimitFault before (Objective (terms_of terms)) → ⊥
-objective_fits terms all (large_coef some) = no_large terms all some
+pub objective_fits : {before : PlainDraft} (terms : List ReadTerm) → HasGroup before → All (λ term. IsWithin greatest_coefficient term.coef) terms → IsLimitFault before (Objective (terms_of terms)) → ⊥
+objective_fits terms group all (large_coef some) = no_large terms all some
+objective_fits terms group all (no_group content none) = none group
 
 -- what is declared after a scope, a sum or an objective is declared after its statement
-pub distinct_declares : {names : List (List ℕ)} {before after : PlainProblem} → AddsDistinct names before after → Declares (Some before) (Distinct names) (Some after)
+pub distinct_declares : {names : List (List ℕ)} {before after : PlainDraft} → AddsDistinct names before after → Declares (Some before) (Distinct names) (Some after)
 distinct_declares adds = declares_distinct adds.names_are adds.adds
 
-pub total_declares : (terms : List ReadTerm) {least most : ℤ} {before after : PlainProblem} → AddsTotal terms least most before after → Declares (Some before) (Total (terms_of terms) least most) (Some after)
+pub total_declares : (terms : List ReadTerm) {least most : ℤ} {before after : PlainDraft} → AddsTotal terms least most before after → Declares (Some before) (Total (terms_of terms) least most) (Some after)
 total_declares terms adds = declares_total adds.names_are (small_coefs terms adds.fits.coefs_fit) adds.fits.least_fits adds.fits.most_fits adds.adds
 
-pub objective_declares : (terms : List ReadTerm) {before after : PlainProblem} → AddsLeast terms before after → Declares (Some before) (Objective (terms_of terms)) (Some after)
+pub objective_declares : (terms : List ReadTerm) {before after : PlainDraft} → AddsLeast terms before after → Declares (Some before) (Objective (terms_of terms)) (Some after)
 objective_declares terms adds = declares_objective adds.names_are (small_coefs terms adds.coefs_fit) adds.adds
 
 -- what a shape declares
-pub declares_at : (shape : Shape) {given : Shape} {before given_before after : Option PlainProblem} → given_before ≡ before → given ≡ shape → Declares before (statement_of shape) after → Declares given_before (statement_of given) after
+pub declares_at : (shape : Shape) {given : Shape} {before given_before after : Option PlainDraft} → given_before ≡ before → given ≡ shape → Declares before (statement_of shape) after → Declares given_before (statement_of given) after
 declares_at shape {given = given} {before = before} {after = after} started is declares =
     subst (λ b. Declares b (statement_of given) after) (sym started) (subst (λ sh. Declares before (statement_of sh) after) (sym is) declares)

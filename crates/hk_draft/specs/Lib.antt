@@ -1,5 +1,7 @@
 pub mod Declares
+pub mod Drafts
 pub mod Faults
+pub mod Items
 pub mod Limits
 pub mod inside
 pub use Rattle.hk_group.specs.Problems

@@ -1,2 +1,3 @@
 -- Definitions that only contracts within the crate cite.
 pub mod Fits
+pub mod Items

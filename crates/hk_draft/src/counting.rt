@@ -16,7 +16,7 @@ use crate::limits::is_small_set;
 use crate::repeats::are_once;
 use crate::scopes::places_of;
 use hk_base::{LIM, List};
-use hk_group::limits::{CONSTRAINTS, VALUES, WINDOW};
+use hk_group::limits::{VALUES, WINDOW};
 use hk_group::{Constraint, is_rising};
 use hk_lines::{Counting, Row, set_of_values};
 use std::alloc::{AllocError, Global};
@@ -93,7 +93,7 @@ fn counting_fits(draft: &Draft, counting: &Counting<'_>) -> bool
     ensures fits { IsTrue result → FitsCounting (plain_counting counting.now) draft.now }
     ensures large { result ≡ false → FitsCounting (plain_counting counting.now) draft.now → ⊥ }
 {
-    if draft.constraint_count() >= CONSTRAINTS {
+    if !draft.has_room() {
         return false;
     }
     if !is_small_set(counting.set.as_slice()) {
@@ -149,12 +149,15 @@ pub fn declare_gcc(
     }
 }
 
-/// Whether there is room for the constraint, and its rows are within the limits.
+/// Whether there is room for the constraint, and it has rows, which are within the limits.
 fn rows_fit(draft: &Draft, rows: &[Row<'_>]) -> bool
     ensures fits { IsTrue result → FitsRows (rows_of rows.now) draft.now }
     ensures large { result ≡ false → FitsRows (rows_of rows.now) draft.now → ⊥ }
 {
-    if draft.constraint_count() >= CONSTRAINTS {
+    if !draft.has_room() {
+        return false;
+    }
+    if rows.is_empty() {
         return false;
     }
     are_small_rows(rows)

@@ -6,7 +6,8 @@ ghost use Rattle.hk_draft.specs.inside.Fits.{AddsDistinct, AddsTotal, AddsLeast,
 ghost use Rattle.hk_draft.specs.Faults.{IsStatementFault, IsLimitFault};
 ghost use Rattle.hk_group.specs.Problems.{IsWithin};
 ghost use Rattle.hk_lines.specs.Statements.{Header, Variable, Distinct, Total, Objective};
-ghost use Rattle.hk_draft.specs.Declares.{Declares, AddsVariable, empty_problem};
+ghost use Rattle.hk_draft.specs.Declares.{Declares, AddsVariable};
+ghost use Rattle.hk_draft.specs.Drafts.{HasGroup, empty_draft};
 ghost use Rattle.hk_group.specs.Limits.{greatest_coefficient};
 
 use crate::counting::{declare_among, declare_gcc, declare_sequence};
@@ -15,7 +16,7 @@ use crate::faults::LineFault;
 use crate::kinds::RefusalKind;
 use crate::limits::is_within_limit;
 use crate::scopes::{coefs_of, places_of, term_places};
-use hk_group::limits::{COEFFICIENT, CONSTRAINTS, NAME_BYTES, VALUES, VARIABLES};
+use hk_group::limits::{COEFFICIENT, NAME_BYTES, VALUES, VARIABLES};
 use hk_group::{Constraint, Linear, is_rising};
 use hk_lines::{Shape, Term, Values, set_of_values};
 use std::alloc::Global;
@@ -57,12 +58,19 @@ pub fn declare(alloc: Global, draft: &mut Option<Draft>, shape: &Shape<'_>) -> R
             None => Err(LineFault::Bad(RefusalKind::Syntax)),
             Some(draft) => declare_objective(alloc, draft, terms.as_slice()),
         },
+        Shape::NewGroup => match draft {
+            None => Err(LineFault::Bad(RefusalKind::Syntax)),
+            Some(draft) => {
+                draft.begin_group();
+                Ok(())
+            }
+        },
     }
 }
 
 /// Begins the draft, where it isn't begun: else it stays as it was.
 fn start(alloc: Global, draft: &mut Option<Draft>) -> Result<(), LineFault>
-    ensures ok { OnOk result ((draft.old ≡ None) × (draft.new ≡ Some empty_problem)) }
+    ensures ok { OnOk result ((draft.old ≡ None) × (draft.new ≡ Some empty_draft)) }
     ensures err { IfErr result (IsStatementFault draft.old Header) }
     ensures unchanged { OnErr result (draft.new ≡ draft.old) }
 {
@@ -118,7 +126,7 @@ fn declare_distinct(alloc: Global, draft: &mut Draft, names: &[&[u8]]) -> Result
     ensures unchanged { OnErr result (draft.new ≡ draft.old) }
 {
     let scope = places_of(alloc, draft, names)?;
-    if draft.constraint_count() >= CONSTRAINTS {
+    if !draft.has_room() {
         drop(scope);
         return Err(LineFault::Bad(RefusalKind::Limit));
     }
@@ -174,7 +182,7 @@ fn total_passes_limit(draft: &Draft, terms: &[Term<'_>], least: i64, most: i64) 
     ensures passes { IsTrue result → IsLimitFault draft.now (Total (terms_of terms.now) least most) }
     ensures fits { result ≡ false → FitsTotal terms.now least most draft.now }
 {
-    if draft.constraint_count() >= CONSTRAINTS {
+    if !draft.has_room() {
         return true;
     }
     if !is_within_limit(least) {
@@ -197,7 +205,7 @@ fn declare_objective(alloc: Global, draft: &mut Draft, terms: &[Term<'_>]) -> Re
         drop(scope);
         return Err(LineFault::Bad(RefusalKind::Name));
     }
-    if !are_coefficients(terms) {
+    if !objective_fits(draft, terms) {
         drop(scope);
         return Err(LineFault::Bad(RefusalKind::Limit));
     }
@@ -207,7 +215,7 @@ fn declare_objective(alloc: Global, draft: &mut Draft, terms: &[Term<'_>]) -> Re
     }
     match coefs_of(alloc, terms) {
         Ok(coefs) => {
-            draft.set_objective(Linear { scope, coefs });
+            draft.add_objective(Linear { scope, coefs })?;
             Ok(())
         }
         Err(_) => {
@@ -215,6 +223,18 @@ fn declare_objective(alloc: Global, draft: &mut Draft, terms: &[Term<'_>]) -> Re
             Err(LineFault::NoMemory)
         }
     }
+}
+
+/// Whether there is room for the group that the objective begins, and each coefficient is within the
+/// limit.
+fn objective_fits(draft: &Draft, terms: &[Term<'_>]) -> bool
+    ensures fits { IsTrue result → HasGroup draft.now × All (λ term. IsWithin greatest_coefficient term.coef) terms.now }
+    ensures large { result ≡ false → IsLimitFault draft.now (Objective (terms_of terms.now)) }
+{
+    if !draft.has_group() {
+        return false;
+    }
+    are_coefficients(terms)
 }
 
 /// Whether each coefficient is within the limit.

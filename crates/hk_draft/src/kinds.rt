@@ -6,8 +6,6 @@
 pub enum RefusalKind {
     /// A byte is in no token and no comment.
     Text,
-    /// The line begins a statement that isn't read yet.
-    Later,
     /// The tokens are none of a statement that may stand there.
     Syntax,
     /// A name is declared twice, or not where it is used, a gcc lists a value twice, or the line is a

@@ -8,10 +8,11 @@ use Rattle.hk_draft.specs.declared.faults.LineFault.TheVariants.{Bad}
 use Rattle.hk_group.specs.Limits.{greatest_coefficient}
 use Rattle.hk_draft.specs.declared.kinds.RefusalKind.TheVariants as kind
 use Rattle.hk_lines.specs.Posts.{ArgText, Number, Set, Numbers, Post}
-use Rattle.hk_model.specs.Postings.{FitsKind, FitKinds, IsSmallArg, PostNameFault, no_spec, other_args, no_variable, PostLimitFault, many_posts, large_arg, PostScopeFault, AddsPost}
+use Rattle.hk_model.specs.Postings.{FitsKind, FitKinds, IsSmallArg, PostNameFault, no_spec, other_args, no_variable, PostLimitFault, many_posts, no_post_group, large_arg, PostScopeFault, AddsPost}
 use Rattle.hk_lines.specs.PostShapes.{capped_arg, capped_post}
 use Rattle.hk_model.specs.inside.PostFaults.{IsPostFault}
-use Rattle.hk_group.specs.Problems.{PlainProblem, IsWithin}
+use Rattle.hk_group.specs.Problems.{IsWithin}
+use Rattle.hk_draft.specs.Drafts.{PlainDraft}
 use Rattle.hk_lines.specs.Shapes.{capped_signed}
 use Rattle.hk_draft.proofs.CappedNumbers.{same_signed, kept_signed, same_set, kept_set, map_same, map_kept}
 use Rattle.hk_draft.proofs.CappedStatements.{any_map, any_from_map}
@@ -40,7 +41,7 @@ kept_arg count (Number value) small = ap Number (kept_signed value 1000000000000
 kept_arg count (Set set) small = ap Set (kept_set set small.0 small.1)
 kept_arg count (Numbers numbers) small = ap Numbers (map_kept (IsWithin greatest_coefficient) capped_signed (λ n. kept_signed n 1000000 (omega arith)) numbers small.0)
 
-module _ (specs : List Specification) (before : PlainProblem) (post : Post) where
+module _ (specs : List Specification) (before : PlainDraft) (post : Post) where
   -- they have the same faults of names
   name_whole : PostNameFault specs before (capped_post post) → PostNameFault specs before post
   name_whole (no_spec none) = no_spec none
@@ -55,11 +56,13 @@ module _ (specs : List Specification) (before : PlainProblem) (post : Post) wher
   -- the same faults of limits
   limit_whole : PostLimitFault before (capped_post post) → PostLimitFault before post
   limit_whole (many_posts many) = many_posts many
+  limit_whole (no_post_group none) = no_post_group none
   limit_whole (large_arg large) = large_arg (any_from_map (λ arg. IsSmallArg (length post.names) arg → ⊥) (λ arg. IsSmallArg (length post.names) arg → ⊥) capped_arg
       (λ arg none small. none (subst (IsSmallArg (length post.names)) (sym (kept_arg (length post.names) arg small)) small)) post.args large)
 
   limit_capped : PostLimitFault before post → PostLimitFault before (capped_post post)
   limit_capped (many_posts many) = many_posts many
+  limit_capped (no_post_group none) = no_post_group none
   limit_capped (large_arg large) = large_arg (any_map (λ arg. IsSmallArg (length post.names) arg → ⊥) (λ arg. IsSmallArg (length post.names) arg → ⊥) capped_arg
       (λ arg none small. none (subst (IsSmallArg (length post.names)) (same_arg (length post.names) arg small) small)) post.args large)
 
@@ -75,7 +78,7 @@ module _ (specs : List Specification) (before : PlainProblem) (post : Post) wher
   post_fault_whole fault faulty = faulty
 
   -- what a post with its numbers capped adds is what the post adds
-  pub adds_post_whole : {after : PlainProblem} → AddsPost specs (capped_post post) before after → AddsPost specs post before after
+  pub adds_post_whole : {after : PlainDraft} → AddsPost specs (capped_post post) before after → AddsPost specs post before after
   adds_post_whole {after} adds =
       let args = map_same (IsSmallArg (length post.names)) capped_arg (same_arg (length post.names)) post.args adds.small in
       let same : capped_post post ≡ post = λ i. record { spec = post.spec; args = args i; names = post.names } in

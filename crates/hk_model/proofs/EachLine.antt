@@ -1,22 +1,15 @@
 -- Each line is good, or it has a first fault.
-use Rattle.std.proofs.Common.{◌≡◌, ◌≢◌, ℕ, ◌⊎◌, inl, inr, List, [], ◌∷◌, Option, None, Some, refl, subst}
-use Rattle.std.specs.Prelude.{Contains}
-use Rattle.std.proofs.Math.Decide.{map_dec}
-use Rattle.std.proofs.lemmas.Map.Made.{is_member-Decides}
-use Rattle.std.proofs.lemmas.Slice.Eq.{bytes_eq-Decides}
+use Rattle.std.proofs.Common.{◌≡◌, ◌≢◌, ℕ, ◌⊎◌, inl, inr, List, [], ◌∷◌, Option, None, Some, refl}
 use Rattle.hk_text.specs.declared.tokenizer.Token.{Token}
 use Rattle.hk_text.specs.Texts.{texts_of}
 use Rattle.hk_text.specs.Tokens.{AreTokensOf, IsBadByte, HasTexts}
 use Rattle.hk_text.proofs.Existence.{tokens_or_bad_byte}
-use Rattle.hk_parse.specs.BlockLines.{Part}
 use Rattle.hk_draft.specs.declared.kinds.RefusalKind.{RefusalKind}
-use Rattle.hk_draft.specs.declared.kinds.RefusalKind.TheVariants.{Text, Later, Syntax, Name, Limit, Scope, Grade}
+use Rattle.hk_draft.specs.declared.kinds.RefusalKind.TheVariants.{Text, Syntax, Name, Limit, Scope, Grade}
 use Rattle.hk_model.specs.LineFaults.{IsFirstFault}
-use Rattle.hk_model.specs.Models.{Declared, IsGoodLine, good_empty, IsLaterLine}
-use Rattle.hk_lines.specs.Later.{later_words}
-use Rattle.hk_group.specs.Problems.{PlainProblem}
-use Rattle.hk_text.proofs.Deciding.{dec_test}
-use Rattle.hk_model.proofs.FaultRanks.{has_texts, later_begins, first_text, first_later, first_syntax, first_name, first_limit, first_scope, first_grade}
+use Rattle.hk_model.specs.Models.{Declared, IsGoodLine, good_empty}
+use Rattle.hk_draft.specs.Drafts.{PlainDraft}
+use Rattle.hk_model.proofs.FaultRanks.{has_texts, first_text, first_syntax, first_name, first_limit, first_scope, first_grade}
 use Rattle.hk_model.proofs.Meanings.{Meaning, Means, none_say_nothing, dec_means}
 use Rattle.hk_model.proofs.MeantEffects.{meant_good}
 use Rattle.hk_model.proofs.MeantFaults.{FaultIn, dec_name_in, dec_limit_in, dec_scope_in, dec_grade_in, meant_effect, header_effect}
@@ -27,25 +20,9 @@ pub data Judged (before : Declared) (line : List ℕ) : Type 0 where
   found_good : (after : Declared) → IsGoodLine before line after → Judged before line
   found_fault : (kind : RefusalKind) → IsFirstFault before line kind → Judged before line
 
--- whether a word begins a statement which isn't read yet
-dec_later_word : (word : List ℕ) → Dec (Contains later_words word)
-dec_later_word word = dec_test _ (is_member-Decides bytes_eq-Decides later_words word)
-
--- whether a line with tokens is Later
-dec_later : (before : Declared) {line word : List ℕ} {more : List (List ℕ)} → HasTexts line (word ∷ more) → Dec (IsLaterLine before line)
-dec_later before {line = line} {word = word} {more = more} has = by before.problem refl before.block refl
-  where
-    by : (problem : Option PlainProblem) → before.problem ≡ problem → (block : Option Part) → before.block ≡ block → Dec (IsLaterLine before line)
-    by None start block is = no (λ later. let started = later.started in cc)
-    by (Some problem) start (Some part) is = no (λ later. let outside = later.outside in cc)
-    by (Some problem) start None is = map_dec
-        (λ later. record { problem = problem; started = start; outside = is; word = word; more = more; has = has; later = later })
-        (λ later. let begins = (later_begins has later).2 in let parts = begins.parts in let same : begins.word ≡ word = cc in subst (Contains later_words) same begins.later)
-        (dec_later_word word)
-
 module _ {before : Declared} {line : List ℕ} {texts : List (List ℕ)} {m : Meaning} (sound : IsSound before) (has : HasTexts line texts) (means : Means before texts m) where
   -- a line after the header that means something without faults has an effect
-  by_faults : (problem : PlainProblem) → before.problem ≡ Some problem → Dec (FaultIn before problem Name m) → Dec (FaultIn before problem Limit m) → Dec (FaultIn before problem Scope m) → Judged before line
+  by_faults : (problem : PlainDraft) → before.problem ≡ Some problem → Dec (FaultIn before problem Name m) → Dec (FaultIn before problem Limit m) → Dec (FaultIn before problem Scope m) → Judged before line
   by_faults problem started (yes named) limited unordered = found_fault Name (first_name has started means named)
   by_faults problem started (no named) (yes limited) unordered = found_fault Limit (first_limit has started means limited named)
   by_faults problem started (no named) (no limited) (yes unordered) = found_fault Scope (first_scope has started means unordered named limited)
@@ -56,23 +33,19 @@ module _ {before : Declared} {line : List ℕ} {texts : List (List ℕ)} {m : Me
       by_grade (no graded) = let effect = meant_effect sound started means named limited unordered graded in found_good effect.0 (meant_good has means effect.1)
 
   -- a line that means something is good or has a fault
-  by_place : (problem : Option PlainProblem) → before.problem ≡ problem → Judged before line
+  by_place : (problem : Option PlainDraft) → before.problem ≡ problem → Judged before line
   by_place None start = let effect = header_effect sound start means in found_good effect.0 (meant_good has means effect.1)
   by_place (Some problem) start = by_faults problem start (dec_name_in before problem m) (dec_limit_in before problem m) (dec_scope_in before problem m)
 
--- a line with tokens that is not Later is good where they mean something and it has no fault
-by_meaning : {before : Declared} {line : List ℕ} {texts : List (List ℕ)} → IsSound before → HasTexts line texts → texts ≢ [] → (IsLaterLine before line → ⊥) → Dec ((m : Meaning) × Means before texts m) → Judged before line
-by_meaning {before = before} sound has some no_later (yes found) = by_place sound has found.1 before.problem refl
-by_meaning sound has some no_later (no none) = found_fault Syntax (first_syntax has some (none_say_nothing (λ m means. none (m, means))) no_later)
+-- a line with tokens is good where they mean something and it has no fault
+by_meaning : {before : Declared} {line : List ℕ} {texts : List (List ℕ)} → IsSound before → HasTexts line texts → texts ≢ [] → Dec ((m : Meaning) × Means before texts m) → Judged before line
+by_meaning {before = before} sound has some (yes found) = by_place sound has found.1 before.problem refl
+by_meaning sound has some (no none) = found_fault Syntax (first_syntax has some (none_say_nothing (λ m means. none (m, means))))
 
 -- a line with texts is good or has a fault
 by_texts : (before : Declared) {line : List ℕ} (texts : List (List ℕ)) → IsSound before → HasTexts line texts → Judged before line
 by_texts before [] sound has = found_good before (good_empty has)
-by_texts before {line = line} (word ∷ more) sound has = by (dec_later before has)
-  where
-    by : Dec (IsLaterLine before line) → Judged before line
-    by (yes later) = found_fault Later (first_later later)
-    by (no none) = by_meaning sound has (λ same. cc) none (dec_means before (word ∷ more))
+by_texts before {line = line} (word ∷ more) sound has = by_meaning sound has (λ same. cc) (dec_means before (word ∷ more))
 
 -- each line is good, or has a first fault
 pub judged : (before : Declared) (line : List ℕ) → IsSound before → Judged before line

@@ -1,5 +1,5 @@
 -- The first fault of a line: each kind's is built from what is known of the line, and a line has one.
-use Rattle.std.proofs.Common.{◌≡◌, ◌≢◌, ◌≤◌, ◌==◌, ℕ, suc, true, List, [], None, Some, IsSome, is_some, refl, ap, sym, ◌∙◌, subst, arith, ◌<◌, ◌⊎◌, inl, inr, get_or, ◌∷◌}
+use Rattle.std.proofs.Common.{◌≡◌, ◌≢◌, ◌≤◌, ◌==◌, ℕ, suc, true, List, [], None, Some, refl, ap, sym, ◌∙◌, subst, arith, ◌<◌, ◌⊎◌, inl, inr, get_or, ◌∷◌}
 use Rattle.std.specs.Prelude.{IfSome}
 use Rattle.std.proofs.lemmas.Bool.Decides.{nat_tests}
 use Rattle.hk_parse.specs.Blocks.{IsPart}
@@ -7,26 +7,23 @@ use Rattle.hk_text.specs.declared.tokenizer.Token.{Token}
 use Rattle.hk_text.specs.Texts.{texts_of}
 use Rattle.hk_text.specs.Tokens.{AreTokensOf, IsBadByte, HasTexts}
 use Rattle.hk_draft.specs.declared.kinds.RefusalKind.{RefusalKind}
-use Rattle.hk_draft.specs.declared.kinds.RefusalKind.TheVariants.{Text, Later, Syntax, Name, Limit, Scope, Grade, Unfinished}
-use Rattle.hk_lines.specs.Later.{BeginsLater}
-use Rattle.hk_model.specs.LineFaults.{SayNothingAfter, IsFault, fault_text, fault_later, fault_syntax, rank, IsFirstFault}
-use Rattle.hk_model.specs.Models.{Declared, IsBadLine, IsLaterLine}
-use Rattle.hk_group.specs.Problems.{PlainProblem}
+use Rattle.hk_draft.specs.declared.kinds.RefusalKind.TheVariants.{Text, Syntax, Name, Limit, Scope, Grade, Unfinished}
+use Rattle.hk_model.specs.LineFaults.{SayNothingAfter, IsFault, fault_text, fault_syntax, rank, IsFirstFault}
+use Rattle.hk_model.specs.Models.{Declared, IsBadLine}
+use Rattle.hk_draft.specs.Drafts.{PlainDraft}
 use Rattle.hk_text.proofs.Reading.{same_texts, bad_byte_no_texts}
-use Rattle.hk_model.proofs.Meanings.{Meaning, Means, nothing_means, say_nothing_none, later_means_nothing, means_one}
-use Rattle.hk_model.proofs.MeantFaults.{FaultIn, Faulty, faulty_text, faulty_later, faulty_syntax, faulty_meaning, faulty, meant_fault, same_problem, faulty_nothing}
+use Rattle.hk_model.proofs.Meanings.{Meaning, Means, nothing_means, say_nothing_none, means_one}
+use Rattle.hk_model.proofs.MeantFaults.{FaultIn, Faulty, faulty_text, faulty_syntax, faulty_meaning, faulty, meant_fault, same_problem, faulty_nothing}
 use Rattle.std.proofs.lemmas.Bool.{cases_lt}
-use Rattle.hk_text.proofs.TokenTexts.{apart_none}
-use Rattle.hk_model.proofs.MeantEffects.{some_value, means_here, Seen, seen_nothing, seen_meaning, seen}
+use Rattle.hk_model.proofs.MeantEffects.{means_here, Seen, seen_nothing, seen_meaning, seen}
 
 -- the kind at a place in the order of kinds
 kind_at : ℕ → RefusalKind
-kind_at n = get_or (Text ∷ Later ∷ Syntax ∷ Name ∷ Limit ∷ Scope ∷ Grade ∷ []) n Unfinished
+kind_at n = get_or (Text ∷ Syntax ∷ Name ∷ Limit ∷ Scope ∷ Grade ∷ []) n Unfinished
 
 kind_at_rank : (kind : RefusalKind) → kind_at (rank kind) ≡ kind
 unfolding kind_at
 kind_at_rank Text = refl
-kind_at_rank Later = refl
 kind_at_rank Syntax = refl
 kind_at_rank Name = refl
 kind_at_rank Limit = refl
@@ -49,31 +46,15 @@ first_fault_one {k = k} {j = j} x y =
 pub zero_from_test : (n : ℕ) → (n == 0) ≡ true → n ≡ 0
 zero_from_test n is = grind (arith, nat_tests)
 
-module _ {before : Declared} {line : List ℕ} {texts : List (List ℕ)} (has : HasTexts line texts) where
-  -- after the header and outside of a specification, a line whose texts begin a statement which isn't read yet is Later
-  pub later_line : IsSome before.problem → before.block ≡ None → BeginsLater texts → IsLaterLine before line
-  later_line some out begins =
-      let start = some_value before.problem some in
-      record { problem = start.0; started = start.1; outside = out; word = begins.word; more = begins.more; has = subst (HasTexts line) begins.parts has; later = begins.later }
-
-  -- and no other line is
-  pub later_begins : IsLaterLine before line → IsSome before.problem × (before.block ≡ None) × BeginsLater texts
-  later_begins later = (ap is_some later.started, later.outside, record { word = later.word; more = later.more; parts = same_texts has later.has; later = later.later })
-
 module _ (line : List ℕ) (tokens : List Token) (split : AreTokensOf line tokens) where
   -- a line has the texts of its tokens
   pub has_texts : HasTexts line (texts_of line tokens)
   has_texts = record { tokens = tokens; split = split; texts_are = refl }
 
--- a line whose texts mean something is not Later
-pub meant_not_later : {before : Declared} {line : List ℕ} {texts : List (List ℕ)} {m : Meaning} → HasTexts line texts → Means before texts m → IsLaterLine before line → ⊥
-meant_not_later has means later = later_means_nothing later.outside later.later (means_here later.has has means)
-
 -- what means something has the fault that its line has
-pub fault_here : {before : Declared} {line : List ℕ} {texts : List (List ℕ)} {problem : PlainProblem} {m : Meaning} {kind : RefusalKind} → HasTexts line texts → before.problem ≡ Some problem → Means before texts m
+pub fault_here : {before : Declared} {line : List ℕ} {texts : List (List ℕ)} {problem : PlainDraft} {m : Meaning} {kind : RefusalKind} → HasTexts line texts → before.problem ≡ Some problem → Means before texts m
     → Faulty before line kind → FaultIn before problem kind m
 fault_here has started means (faulty_text bad) = absurd (bad_byte_no_texts bad has)
-fault_here has started means (faulty_later later) = absurd (meant_not_later has means later)
 fault_here has started means (faulty_syntax has' some none) = absurd (say_nothing_none none (means_here has' has means))
 fault_here {before = before} {problem = problem} has started means (faulty_meaning {m = other} {kind = kind} has' started' means' fault) =
     subst (FaultIn before problem kind) (means_one (means_here has has' means') means) (subst (λ p. FaultIn before p kind other) (same_problem started' started) fault)
@@ -105,25 +86,18 @@ module _ {before : Declared} {line : List ℕ} where
       none : IsFault before line Text → ⊥
       none (fault_text bad) = bad_byte_no_texts bad has
 
-  -- a line that begins a statement which isn't read yet has the fault Later first
-  pub first_later : IsLaterLine before line → IsFirstFault before line Later
-  first_later later = record { fault = fault_later later; first = none_text later.has }
+  -- a line with tokens that say nothing which may stand there has the fault Syntax first
+  pub first_syntax : {texts : List (List ℕ)} → HasTexts line texts → texts ≢ [] → SayNothingAfter before texts → IsFirstFault before line Syntax
+  first_syntax has some silent = record { fault = fault_syntax has some silent; first = none_text has }
 
-  -- a line with tokens that say nothing which may stand there has the fault Syntax first, where it is not Later
-  pub first_syntax : {texts : List (List ℕ)} → HasTexts line texts → texts ≢ [] → SayNothingAfter before texts → (IsLaterLine before line → ⊥) → IsFirstFault before line Syntax
-  first_syntax has some silent no_later = record { fault = fault_syntax has some silent; first = none_more Later (none_text has) none }
-    where
-      none : IsFault before line Later → ⊥
-      none (fault_later later) = no_later later
-
-module _ {before : Declared} {line : List ℕ} {texts : List (List ℕ)} {problem : PlainProblem} {m : Meaning} (has : HasTexts line texts) (started : before.problem ≡ Some problem) (means : Means before texts m) where
+module _ {before : Declared} {line : List ℕ} {texts : List (List ℕ)} {problem : PlainDraft} {m : Meaning} (has : HasTexts line texts) (started : before.problem ≡ Some problem) (means : Means before texts m) where
   -- a kind of which the line's meaning has no fault
   free : (kind : RefusalKind) → (FaultIn before problem kind m → ⊥) → IsFault before line kind → ⊥
   free kind none fault = none (fault_here has started means (faulty fault))
 
   -- a line that means something with a fault of a name has the fault Name first
-  none_early : NoneBefore before line 3
-  none_early = none_more Syntax (none_more Later (none_text has) (free Later (λ none. none))) (free Syntax (λ none. none))
+  none_early : NoneBefore before line 2
+  none_early = none_more Syntax (none_text has) (free Syntax (λ none. none))
 
   pub first_name : FaultIn before problem Name m → IsFirstFault before line Name
   first_name fault = record { fault = meant_fault has started means Name fault; first = none_early }
@@ -151,11 +125,9 @@ fault_bad {before = before} {line = line} parts fault after good = by (seen good
   where
     by : {after : Declared} {kind : RefusalKind} → Seen before line after → Faulty before line kind → ⊥
     by (seen_nothing has) (faulty_text bad) = bad_byte_no_texts bad has
-    by (seen_nothing has) (faulty_later later) = apart_none refl (same_texts has later.has)
     by (seen_nothing has) (faulty_syntax has' some none) = some (same_texts has' has)
     by (seen_nothing has) (faulty_meaning has' started means found) = nothing_means (means_here has has' means)
     by (seen_meaning has means effect) (faulty_text bad) = bad_byte_no_texts bad has
-    by (seen_meaning has means effect) (faulty_later later) = meant_not_later has means later
     by (seen_meaning has means effect) (faulty_syntax has' some none) = say_nothing_none none (means_here has' has means)
     by {kind = kind} (seen_meaning has means effect) (faulty_meaning has' started means' found) = faulty_nothing parts started means effect kind (fault_here has started means (faulty_meaning has' started means' found))
 

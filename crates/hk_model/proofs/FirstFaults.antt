@@ -10,8 +10,8 @@ use Rattle.hk_lines.specs.Plain.{statement_of}
 use Rattle.hk_model.specs.inside.Faults.{IsLineFault}
 use Rattle.hk_draft.specs.Faults.{IsFaultyStatement, IsStatementFault}
 use Rattle.hk_model.specs.LineFaults.{IsFirstFault}
-use Rattle.hk_model.specs.Models.{Declared, IsGoodLine, good_statement, IsLaterLine}
-use Rattle.hk_group.specs.Problems.{PlainProblem}
+use Rattle.hk_model.specs.Models.{Declared, IsGoodLine, good_statement}
+use Rattle.hk_draft.specs.Drafts.{PlainDraft}
 use Rattle.hk_lines.specs.Shapes.{IsShapeOf}
 use Rattle.hk_lines.specs.Statements.{Statement, Says}
 use Rattle.hk_draft.specs.Declares.{MayStand, Declares}
@@ -19,9 +19,8 @@ use Rattle.hk_draft.proofs.CappedFaults.{faulty_whole}
 use Rattle.hk_draft.proofs.CappedStatements.{declares_whole}
 use Rattle.hk_draft.proofs.Standing.{named_stands, limited_stands, unordered_stands}
 use Rattle.hk_model.proofs.FaultRanks.{first_syntax, first_name, first_limit, first_scope, none_open, fault_bad}
-use Rattle.hk_lines.proofs.FirstWords.{statement_no_post, later_says_nothing}
+use Rattle.hk_lines.proofs.FirstWords.{statement_no_post}
 use Rattle.hk_model.proofs.FirstWords.{statement_no_opening}
-use Rattle.hk_text.proofs.Reading.{same_texts}
 use Rattle.hk_lines.proofs.Grammar.{says_one, says_nothing}
 use Rattle.hk_model.proofs.Meanings.{Meaning, Means, means_statement, means_post, means_opening, means_inside, outside_inside, none_say_nothing}
 
@@ -37,14 +36,10 @@ no_meaning before out says none (means_opening out' some says') = statement_no_o
 no_meaning before out says none (means_inside is says' stands) = outside_inside out is
 
 module _ {before : Declared} {line : List ℕ} {texts : List (List ℕ)} {s : Statement} (has : HasTexts line texts) (out : before.block ≡ None) (says : Says texts s) where
-  -- a line that says a statement is not Later
-  said_not_later : IsLaterLine before line → ⊥
-  said_not_later later = later_says_nothing later.later (subst (λ all. Says all s) (same_texts has later.has) says)
-
   -- the first fault of a statement is that of the line that says it
-  pub line_fault : (problem : Option PlainProblem) → before.problem ≡ problem → (kind : RefusalKind) → IsFaultyStatement problem s kind → IsFirstFault before line kind
+  pub line_fault : (problem : Option PlainDraft) → before.problem ≡ problem → (kind : RefusalKind) → IsFaultyStatement problem s kind → IsFirstFault before line kind
   line_fault problem started Syntax none =
-      first_syntax has (said_some says) (none_say_nothing (λ m means. no_meaning before out says (λ stands. none (subst (λ p. MayStand p s) started stands)) means)) said_not_later
+      first_syntax has (said_some says) (none_say_nothing (λ m means. no_meaning before out says (λ stands. none (subst (λ p. MayStand p s) started stands)) means))
   line_fault (Some problem) started Name fault = first_name has started (means_statement out says (subst (λ p. MayStand p s) (sym started) (named_stands fault))) fault
   line_fault (Some problem) started Limit (fault, no_name) = first_limit has started (means_statement out says (subst (λ p. MayStand p s) (sym started) (limited_stands fault))) fault no_name
   line_fault (Some problem) started Scope (fault, no_name, no_limit) =
@@ -61,5 +56,5 @@ module _ {line : List ℕ} {texts : List (List ℕ)} (has : HasTexts line texts)
   first_of_statement NoMemory nothing = tt
 
   -- what is declared after a statement of a line is declared after the line
-  pub effect_of_statement : (after : Option PlainProblem) → Declares before.problem (statement_of shape) after → IsGoodLine before line (record before { problem = after })
+  pub effect_of_statement : (after : Option PlainDraft) → Declares before.problem (statement_of shape) after → IsGoodLine before line (record before { problem = after })
   effect_of_statement after declares = good_statement has out shaped.1 (declares_whole shaped.0 (subst (λ t. Declares before.problem t after) shaped.2 declares))

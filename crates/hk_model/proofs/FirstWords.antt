@@ -1,18 +1,16 @@
 -- First lines of specifications are told from statements and posts by their first words.
-use Rattle.std.proofs.Common.{◌≡◌, ℕ, Bool, true, false, List, [], ◌∷◌, get_or, Contains, refl, sym, ap, ◌∙◌, true≢false}
+use Rattle.std.proofs.Common.{◌≡◌, ℕ, Bool, true, false, List, [], ◌∷◌, get_or, refl, sym, ap, ◌∙◌, true≢false}
 use Rattle.std.specs.Prelude.{codes}
 use Rattle.std.specs.Set.{is_member}
 use Rattle.std.specs.Str.{bytes_eq}
 use Rattle.hk_parse.specs.LineTexts.{ParamText, Begin, SaysLine}
-use Rattle.hk_lines.specs.Later.{later_words}
 use Rattle.hk_lines.specs.Posts.{Post, SaysPost}
-use Rattle.hk_lines.specs.Statements.{Statement, Says, says_header, says_variable, says_distinct, says_among, says_sequence, says_gcc, says_total, says_objective}
+use Rattle.hk_lines.specs.Statements.{Statement, Says, says_header, says_variable, says_distinct, says_among, says_sequence, says_gcc, says_total, says_objective, says_new_group}
 use Rattle.hk_text.proofs.TokenTexts.{apart, apart_none}
-use Rattle.hk_lines.proofs.FirstWords.{later_apart}
 
 -- the words that begin statements
 abbrev pub statement_words : List (List ℕ)
-statement_words = codes "hkm" ∷ codes "var" ∷ codes "alldifferent" ∷ codes "among" ∷ codes "sequence" ∷ codes "gcc" ∷ codes "sum" ∷ codes "minimize" ∷ []
+statement_words = codes "hkm" ∷ codes "var" ∷ codes "alldifferent" ∷ codes "among" ∷ codes "sequence" ∷ codes "gcc" ∷ codes "sum" ∷ codes "minimize" ∷ codes "group" ∷ []
 
 -- whether the first of these texts is one
 abbrev begins_statement : List (List ℕ) → Bool
@@ -28,6 +26,7 @@ says_begins (says_sequence x number counting) = ap begins_statement x
 says_begins (says_gcc x scope rows) = ap begins_statement x
 says_begins (says_total x terms bounds) = ap begins_statement x
 says_begins (says_objective x terms) = ap begins_statement x
+says_begins (says_new_group x) = ap begins_statement x
 
 -- texts that begin with another word say no statement
 pub statement_apart : {texts rest : List (List ℕ)} {word : List ℕ} {s : Statement} → Says texts s → texts ≡ word ∷ rest → is_member bytes_eq statement_words word ≡ false → ⊥
@@ -43,6 +42,3 @@ post_no_opening post line = apart 0 post.parts line.texts_are refl
 
 pub nothing_no_opening : {name : List ℕ} {params : List ParamText} → SaysLine [] (Begin name params) → ⊥
 nothing_no_opening line = apart_none refl line.texts_are
-
-pub later_no_opening : {word : List ℕ} {more : List (List ℕ)} {name : List ℕ} {params : List ParamText} → Contains later_words word → SaysLine (word ∷ more) (Begin name params) → ⊥
-later_no_opening is line = later_apart is line.texts_are refl

@@ -4,6 +4,7 @@ use Rattle.hk_model.specs.Models.{Declared, nothing_declared, IsGoodLine, AreGoo
 use Rattle.hk_group.specs.Problems.{PlainProblem, IsValid}
 use Rattle.hk_model.proofs.MeantEffects.{good_line_one}
 use Rattle.hk_model.proofs.Soundness.{IsSound, nothing_sound, good_line_sound}
+use Rattle.hk_draft.proofs.OneProblem.{problem_valid}
 use Rattle.hk_draft.proofs.Validity.{IsValidSoFar}
 
 -- good lines have one effect
@@ -32,4 +33,4 @@ good_lines_sound goods = good_lines_keep goods nothing_sound
 
 -- bytes that spell a problem spell a valid one
 pub spelled_valid : (bytes : List ℕ) (p : PlainProblem) → Spells bytes p → IsValid p
-spelled_valid bytes p spells = let sound = good_lines_sound spells.good in subst IsValidSoFar spells.declared sound.problem
+spelled_valid bytes p spells = let sound = good_lines_sound spells.good in problem_valid (subst IsValidSoFar spells.declared sound.problem) spells.is_of

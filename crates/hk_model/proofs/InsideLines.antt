@@ -13,7 +13,7 @@ use Rattle.hk_model.specs.inside.Faults.{EndsBlock, IsLineFault, as_line_fault}
 use Rattle.hk_model.specs.LineFaults.{SayNothingAfter}
 use Rattle.hk_model.specs.Models.{Declared, IsGoodLine, good_inside, good_end, wrong_latest}
 use Rattle.hk_model.proofs.FaultRanks.{first_syntax, first_name, first_limit, first_grade, fault_bad}
-use Rattle.hk_model.proofs.Meanings.{means_inside, outside_inside}
+use Rattle.hk_model.proofs.Meanings.{means_inside}
 use Rattle.hk_model.proofs.MeantEffects.{some_value}
 
 module _ (before : Declared) {line : List ℕ} {texts : List (List ℕ)} {part : Part} (has : HasTexts line texts) (is : before.block ≡ Some part) where
@@ -24,7 +24,7 @@ module _ (before : Declared) {line : List ℕ} {texts : List (List ℕ)} {part :
   -- where the reader stops at a line of a specification, it stops at the line
   pub fault_inside : IsPart part → texts ≢ [] → IsSome before.problem → (fault : BlockFault) → IsBlockFault part texts fault → IsLineFault before line (as_line_fault fault)
   fault_inside rules some started block.Syntax none =
-      let first = first_syntax has some (subst (λ opened. SayNothingAfter (record before { block = opened }) texts) (sym is) none) (λ later. outside_inside later.outside is) in
+      let first = first_syntax has some (subst (λ opened. SayNothingAfter (record before { block = opened }) texts) (sym is) none) in
       (fault_bad (parts rules) first.fault, first)
   fault_inside rules some started block.Name (text, says, stands, fault) =
       let first = first_name has (some_value before.problem started).1 (means_inside is says stands) fault in

@@ -1,19 +1,18 @@
 -- What a line means where it stands, and that it means one thing.
-use Rattle.std.proofs.Common.{◌≡◌, ℕ, List, [], ◌∷◌, Option, None, Some, IsSome, is_some, Contains, refl, ap, subst}
+use Rattle.std.proofs.Common.{◌≡◌, ℕ, List, [], Option, None, Some, IsSome, is_some, refl, ap, subst}
 use Rattle.std.proofs.Math.Decide.{map_dec}
 use Rattle.hk_parse.specs.BlockLines.{Part, MayStand as MayStandIn}
 use Rattle.hk_parse.specs.LineTexts.{ParamText, LineText, Begin, End, SaysLine}
 use Rattle.hk_model.specs.LineFaults.{SayNothingOutside, SayNothingAfter}
 use Rattle.hk_model.specs.Models.{Declared}
-use Rattle.hk_lines.specs.Later.{later_words}
 use Rattle.hk_lines.specs.Posts.{Post, SaysPost}
 use Rattle.hk_lines.specs.Statements.{Statement, Says}
 use Rattle.hk_draft.specs.Declares.{MayStand}
 use Rattle.hk_parse.proofs.LineReadings.{says_inside_one, opening_one}
 use Rattle.hk_parse.proofs.LineDecisions.{dec_inside, dec_opening}
 use Rattle.hk_text.proofs.Deciding.{dec_both, dec_true}
-use Rattle.hk_lines.proofs.FirstWords.{statement_no_post, nothing_no_post, later_says_nothing, later_no_post}
-use Rattle.hk_model.proofs.FirstWords.{statement_no_opening, post_no_opening, nothing_no_opening, later_no_opening}
+use Rattle.hk_lines.proofs.FirstWords.{statement_no_post, nothing_no_post}
+use Rattle.hk_model.proofs.FirstWords.{statement_no_opening, post_no_opening, nothing_no_opening}
 use Rattle.hk_lines.proofs.Grammar.{says_one, says_nothing}
 use Rattle.hk_text.proofs.TokenTexts.{apart_none}
 use Rattle.hk_lines.proofs.Posting.{says_post_one}
@@ -100,13 +99,6 @@ module _ {before : Declared} {texts : List (List ℕ)} where
         no_opening = λ name params some says. none (Opening name params) (means_opening out some says);
       }
       by (Some part) is = λ text says stands. none (Inside part text) (means_inside is says stands)
-
--- texts whose first is the word of a statement which isn't read yet mean nothing outside of a specification
-pub later_means_nothing : {before : Declared} {word : List ℕ} {more : List (List ℕ)} {m : Meaning} → before.block ≡ None → Contains later_words word → Means before (word ∷ more) m → ⊥
-later_means_nothing out later (means_statement out' says stands) = later_says_nothing later says
-later_means_nothing out later (means_post out' some says) = later_no_post later says
-later_means_nothing out later (means_opening out' some says) = later_no_opening later says
-later_means_nothing out later (means_inside is says stands) = outside_inside out is
 
 -- what texts mean
 pub dec_means : (before : Declared) (texts : List (List ℕ)) → Dec ((m : Meaning) × Means before texts m)

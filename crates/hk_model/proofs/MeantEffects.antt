@@ -7,7 +7,7 @@ use Rattle.hk_spec.specs.declared.expressions.Cond.{Cond}
 use Rattle.hk_model.specs.Models.{Declared, Opens, IsGoodLine, good_empty, good_statement, good_post, good_opening, good_inside, good_end, wrong_latest}
 use Rattle.hk_lines.specs.Posts.{Post}
 use Rattle.hk_model.specs.Postings.{AddsPost}
-use Rattle.hk_group.specs.Problems.{PlainProblem}
+use Rattle.hk_draft.specs.Drafts.{PlainDraft}
 use Rattle.hk_lines.specs.Statements.{Statement}
 use Rattle.hk_draft.specs.Declares.{Declares}
 use Rattle.hk_parse.proofs.LineEffects.{begins_one, good_after_one}
@@ -20,8 +20,8 @@ use Rattle.hk_model.proofs.Soundness.{IsSound, open_part}
 
 -- what is declared after a line that means this
 pub data Effect (before : Declared) : Meaning → Declared → Type 0 where
-  effect_statement : {statement : Statement} {problem : Option PlainProblem} → Declares before.problem statement problem → Effect before (Stating statement) (record before { problem = problem })
-  effect_post : {post : Post} {problem after : PlainProblem} → before.problem ≡ Some problem → AddsPost before.specs post problem after → Effect before (Posting post) (record before { problem = Some after })
+  effect_statement : {statement : Statement} {problem : Option PlainDraft} → Declares before.problem statement problem → Effect before (Stating statement) (record before { problem = problem })
+  effect_post : {post : Post} {problem after : PlainDraft} → before.problem ≡ Some problem → AddsPost before.specs post problem after → Effect before (Posting post) (record before { problem = Some after })
   effect_opening : {name : List ℕ} {params : List ParamText} {part : Part} → Opens before.specs name params part → Effect before (Opening name params) (record before { block = Some part })
   effect_inside : {part after : Part} {text : LineText} → IsGoodAfter part text after → wrong_latest after ≡ None → Effect before (Inside part text) (record before { block = Some after })
   effect_end : {part : Part} {test : Cond} → part.test ≡ Some test → Effect before (Inside part End) (record before { specs = before.specs ++ whole_spec part test ∷ []; block = None })
@@ -67,7 +67,7 @@ effect_one {before = before} sound means (effect_post {post = post} {after = aft
     let same : _ ≡ other = same_problem started started' in
     ap (λ problem. record before { problem = Some problem }) (post_effect_one (subst (λ problem. AddsPost before.specs post problem after) same x) y)
   where
-    same_problem : {p q : PlainProblem} → before.problem ≡ Some p → before.problem ≡ Some q → p ≡ q
+    same_problem : {p q : PlainDraft} → before.problem ≡ Some p → before.problem ≡ Some q → p ≡ q
     same_problem x y = cc
 effect_one {before = before} sound means (effect_opening x) (effect_opening y) = ap (λ part. record before { block = Some part }) (begins_one x.begins y.begins)
 effect_one {before = before} sound (means_inside is says stands) (effect_inside x _) (effect_inside y _) = ap (λ part. record before { block = Some part }) (good_after_one (open_part sound is) x y)

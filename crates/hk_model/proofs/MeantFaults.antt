@@ -6,13 +6,13 @@ use Rattle.hk_parse.specs.BlockLines.{Part, MayStand as MayStandIn, BeginNameFau
 use Rattle.hk_parse.specs.Blocks.{IsPart}
 use Rattle.hk_parse.specs.LineTexts.{LineText, Begin, End, IsLineText}
 use Rattle.hk_model.specs.Limits.{most_specifications}
-use Rattle.hk_model.specs.LineFaults.{name_of_statement, name_of_post, name_of_opening, name_inside, limit_of_statement, limit_of_post, limit_of_opening, limit_inside, scope_of_statement, scope_of_post, SayNothingAfter, IsFault, fault_text, fault_later, fault_syntax, fault_name, fault_limit, fault_scope, fault_grade}
+use Rattle.hk_model.specs.LineFaults.{name_of_statement, name_of_post, name_of_opening, name_inside, limit_of_statement, limit_of_post, limit_of_opening, limit_inside, scope_of_statement, scope_of_post, SayNothingAfter, IsFault, fault_text, fault_syntax, fault_name, fault_limit, fault_scope, fault_grade}
 use Rattle.hk_draft.specs.Faults.{IsNameFault, IsLimitFault, IsScopeFault}
-use Rattle.hk_model.specs.Models.{Declared, wrong_latest, IsLaterLine}
+use Rattle.hk_model.specs.Models.{Declared, wrong_latest}
 use Rattle.hk_model.specs.Postings.{PostNameFault, PostLimitFault, PostScopeFault, AddsPost, spec_of}
-use Rattle.hk_group.specs.Problems.{PlainProblem}
+use Rattle.hk_draft.specs.Drafts.{PlainDraft, empty_draft}
 use Rattle.hk_lines.specs.Statements.{Statement, Header}
-use Rattle.hk_draft.specs.Declares.{MayStand, empty_problem, Declares, declares_header}
+use Rattle.hk_draft.specs.Declares.{MayStand, Declares, declares_header}
 use Rattle.hk_parse.proofs.LineEffects.{begins_exists, good_after_one, good_after_exists}
 use Rattle.hk_parse.proofs.LineDecisions.{dec_begin_name, dec_begin_limit, dec_line_name, dec_line_limit}
 use Rattle.hk_text.proofs.Deciding.{dec_either, dec_true}
@@ -25,11 +25,11 @@ use Rattle.hk_draft.proofs.Standing.{named_stands, limited_stands, unordered_sta
 use Rattle.hk_draft.proofs.StatementFaults.{dec_name_fault, dec_limit_fault, dec_scope_fault}
 use Rattle.hk_text.specs.Tokens.{IsBadByte, HasTexts}
 use Rattle.hk_draft.specs.declared.kinds.RefusalKind.{RefusalKind}
-use Rattle.hk_draft.specs.declared.kinds.RefusalKind.TheVariants.{Text, Later, Syntax, Name, Limit, Scope, Grade}
+use Rattle.hk_draft.specs.declared.kinds.RefusalKind.TheVariants.{Text, Syntax, Name, Limit, Scope, Grade}
 use Rattle.hk_parse.proofs.StepsGrow.{none_or_some}
 
 -- the fault of a kind, by what a line means
-abbrev pub FaultIn : Declared → PlainProblem → RefusalKind → Meaning → Type 0
+abbrev pub FaultIn : Declared → PlainDraft → RefusalKind → Meaning → Type 0
 FaultIn before problem Name (Stating s) = IsNameFault problem s
 FaultIn before problem Limit (Stating s) = IsLimitFault problem s
 FaultIn before problem Scope (Stating s) = IsScopeFault problem s
@@ -43,21 +43,19 @@ FaultIn before problem Limit (Inside part text) = LineLimitFault part text
 FaultIn before problem Grade (Inside part text) = (after : Part) × IsGoodAfter part text after × IsSome (wrong_latest after)
 FaultIn _ _ _ _ = ⊥
 
--- a line with a fault has a bad byte, is Later, says nothing which may stand there, or has the fault in what it means
+-- a line with a fault has a bad byte, says nothing which may stand there, or has the fault in what it means
 pub data Faulty (before : Declared) (line : List ℕ) : RefusalKind → Type 0 where
   faulty_text : {column byte : ℕ} → IsBadByte line column byte → Faulty before line Text
-  faulty_later : IsLaterLine before line → Faulty before line Later
   faulty_syntax : {texts : List (List ℕ)} → HasTexts line texts → texts ≢ [] → SayNothingAfter before texts → Faulty before line Syntax
-  faulty_meaning : {texts : List (List ℕ)} {problem : PlainProblem} {m : Meaning} {kind : RefusalKind}
+  faulty_meaning : {texts : List (List ℕ)} {problem : PlainDraft} {m : Meaning} {kind : RefusalKind}
       → HasTexts line texts → before.problem ≡ Some problem → Means before texts m → FaultIn before problem kind m → Faulty before line kind
 
 -- a statement that may stand after the header may stand where it is read
-stands_started : {found : Option PlainProblem} {problem : PlainProblem} (s : Statement) → found ≡ Some problem → MayStand (Some problem) s → MayStand found s
+stands_started : {found : Option PlainDraft} {problem : PlainDraft} (s : Statement) → found ≡ Some problem → MayStand (Some problem) s → MayStand found s
 stands_started s started stands = subst (λ p. MayStand p s) (sym started) stands
 
 pub faulty : {before : Declared} {line : List ℕ} {kind : RefusalKind} → IsFault before line kind → Faulty before line kind
 faulty (fault_text bad) = faulty_text bad
-faulty (fault_later later) = faulty_later later
 faulty (fault_syntax has some none) = faulty_syntax has some none
 faulty (fault_name has started (name_of_statement {statement = s} out says fault)) = faulty_meaning has started (means_statement out says (stands_started s started (named_stands fault))) fault
 faulty (fault_name has started (name_of_post out says fault)) = faulty_meaning has started (means_post out (ap is_some started) says) fault
@@ -72,7 +70,7 @@ faulty (fault_scope has started (scope_of_post out says fault)) = faulty_meaning
 faulty (fault_grade has started fault) = faulty_meaning has started (means_inside fault.is_open fault.says fault.good.stands) (fault.after, fault.good, fault.wrong)
 
 -- a fault in what a line means is one of the line
-pub meant_fault : {before : Declared} {line : List ℕ} {texts : List (List ℕ)} {problem : PlainProblem} {m : Meaning} → HasTexts line texts → before.problem ≡ Some problem → Means before texts m
+pub meant_fault : {before : Declared} {line : List ℕ} {texts : List (List ℕ)} {problem : PlainDraft} {m : Meaning} → HasTexts line texts → before.problem ≡ Some problem → Means before texts m
     → (kind : RefusalKind) → FaultIn before problem kind m → IsFault before line kind
 meant_fault has started (means_statement out says stands) Name fault = fault_name has started (name_of_statement out says fault)
 meant_fault has started (means_statement out says stands) Limit fault = fault_limit has started (limit_of_statement out says fault)
@@ -89,11 +87,11 @@ meant_fault has started (means_inside {part = part} {text = text} is says stands
 meant_fault has started means kind fault = absurd fault
 
 -- what is declared by then is one problem
-pub same_problem : {found : Option PlainProblem} {p q : PlainProblem} → found ≡ Some p → found ≡ Some q → p ≡ q
+pub same_problem : {found : Option PlainDraft} {p q : PlainDraft} → found ≡ Some p → found ≡ Some q → p ≡ q
 same_problem x y = cc
 
 -- what means something with a fault has no effect
-pub faulty_nothing : {before after : Declared} {texts : List (List ℕ)} {problem : PlainProblem} {m : Meaning} → IfSome before.block IsPart → before.problem ≡ Some problem → Means before texts m
+pub faulty_nothing : {before after : Declared} {texts : List (List ℕ)} {problem : PlainDraft} {m : Meaning} → IfSome before.block IsPart → before.problem ≡ Some problem → Means before texts m
     → Effect before m after → (kind : RefusalKind) → FaultIn before problem kind m → ⊥
 faulty_nothing parts started means (effect_statement {statement = s} {problem = next} declares) Name fault = named_no_effect fault (subst (λ p. Declares p s next) started declares)
 faulty_nothing parts started means (effect_statement {statement = s} {problem = next} declares) Limit fault = limited_no_effect fault (subst (λ p. Declares p s next) started declares)
@@ -113,24 +111,24 @@ faulty_nothing parts started means (effect_end tested) Grade fault = no_more fau
 faulty_nothing parts started means effect kind fault = fault
 
 -- the faults of a meaning are decided
-pub dec_name_in : (before : Declared) (problem : PlainProblem) (m : Meaning) → Dec (FaultIn before problem Name m)
+pub dec_name_in : (before : Declared) (problem : PlainDraft) (m : Meaning) → Dec (FaultIn before problem Name m)
 dec_name_in before problem (Stating s) = dec_name_fault problem s
 dec_name_in before problem (Posting post) = dec_post_name before.specs problem post
 dec_name_in before problem (Opening name params) = dec_either (dec_true (is_some (spec_of before.specs name))) (dec_begin_name params)
 dec_name_in before problem (Inside part text) = dec_line_name part text
 
-pub dec_limit_in : (before : Declared) (problem : PlainProblem) (m : Meaning) → Dec (FaultIn before problem Limit m)
+pub dec_limit_in : (before : Declared) (problem : PlainDraft) (m : Meaning) → Dec (FaultIn before problem Limit m)
 dec_limit_in before problem (Stating s) = dec_limit_fault problem s
 dec_limit_in before problem (Posting post) = dec_post_limit problem post
 dec_limit_in before problem (Opening name params) = dec_either (dec_le most_specifications (length before.specs)) (dec_begin_limit name params)
 dec_limit_in before problem (Inside part text) = dec_line_limit part text
 
-pub dec_scope_in : (before : Declared) (problem : PlainProblem) (m : Meaning) → Dec (FaultIn before problem Scope m)
+pub dec_scope_in : (before : Declared) (problem : PlainDraft) (m : Meaning) → Dec (FaultIn before problem Scope m)
 dec_scope_in before problem (Stating s) = dec_scope_fault problem s
 dec_scope_in before problem (Posting post) = dec_post_scope problem post
 dec_scope_in before problem m = no (λ none. none)
 
-module _ (before : Declared) (problem : PlainProblem) (part : Part) (is : IsPart part) where
+module _ (before : Declared) (problem : PlainDraft) (part : Part) (is : IsPart part) where
   -- a line of a specification without a fault of a name or of a limit is its end, or adds something
   inside_after : (text : LineText) → IsLineText text → MayStandIn part text → (LineNameFault part text → ⊥) → (LineLimitFault part text → ⊥) → (text ≡ End) ⊎ ((after : Part) × IsGoodAfter part text after)
   inside_after (Begin name params) written stands named small = absurd stands
@@ -153,14 +151,14 @@ module _ (before : Declared) (problem : PlainProblem) (part : Part) (is : IsPart
   inside_effect text stands (inr (after, good)) graded = (record before { block = Some after }, effect_inside good (none_since (wrong_latest after) (λ wrong. graded (after, good, wrong))))
 
 -- so the fault of a grade is decided where there is none of a name or of a limit
-pub dec_grade_in : {before : Declared} (problem : PlainProblem) {texts : List (List ℕ)} {m : Meaning} → IsSound before → Means before texts m → (FaultIn before problem Name m → ⊥) → (FaultIn before problem Limit m → ⊥) → Dec (FaultIn before problem Grade m)
+pub dec_grade_in : {before : Declared} (problem : PlainDraft) {texts : List (List ℕ)} {m : Meaning} → IsSound before → Means before texts m → (FaultIn before problem Name m → ⊥) → (FaultIn before problem Limit m → ⊥) → Dec (FaultIn before problem Grade m)
 dec_grade_in {before = before} problem sound (means_inside {part = part} {text = text} is says stands) named limited =
     let rules = open_part sound is in
     dec_after before problem part rules text (inside_after before problem part rules text says.written stands named limited)
 dec_grade_in problem sound means named limited = no (λ none. none)
 
 -- a line after the header that means something without a fault has an effect
-pub meant_effect : {before : Declared} {problem : PlainProblem} {texts : List (List ℕ)} {m : Meaning} → IsSound before → before.problem ≡ Some problem → Means before texts m
+pub meant_effect : {before : Declared} {problem : PlainDraft} {texts : List (List ℕ)} {m : Meaning} → IsSound before → before.problem ≡ Some problem → Means before texts m
     → (FaultIn before problem Name m → ⊥) → (FaultIn before problem Limit m → ⊥) → (FaultIn before problem Scope m → ⊥) → (FaultIn before problem Grade m → ⊥) → (after : Declared) × Effect before m after
 meant_effect {before = before} {problem = problem} sound started (means_statement {statement = s} out says stands) named limited unordered graded =
     let found = effect_of problem s (subst (λ p. MayStand p s) started stands) named limited unordered in
@@ -186,7 +184,7 @@ pub header_effect : {before : Declared} {texts : List (List ℕ)} {m : Meaning} 
 header_effect {before = before} sound start (means_statement {statement = s} out says stands) = by s (subst (λ p. MayStand p s) start stands)
   where
     by : (s : Statement) → MayStand None s → (after : Declared) × Effect before (Stating s) after
-    by Header stands = (record before { problem = Some empty_problem }, effect_statement (subst (λ p. Declares p Header (Some empty_problem)) (sym start) declares_header))
+    by Header stands = (record before { problem = Some empty_draft }, effect_statement (subst (λ p. Declares p Header (Some empty_draft)) (sym start) declares_header))
     by s stands = absurd stands
 header_effect {before = before} sound start (means_post out some says) = absurd (none_or_some before.problem start some)
 header_effect {before = before} sound start (means_opening out some says) = absurd (none_or_some before.problem start some)

@@ -14,13 +14,11 @@ use Rattle.hk_draft.specs.declared.faults.LineFault.TheVariants.{Bad}
 use Rattle.hk_model.specs.Limits.{most_specifications}
 use Rattle.hk_draft.specs.declared.kinds.RefusalKind.TheVariants.{Syntax, Name, Limit}
 use Rattle.hk_model.specs.inside.Faults.{IsLineFault, as_begin_fault}
-use Rattle.hk_model.specs.Models.{Declared, IsGoodLine, good_opening, IsLaterLine}
+use Rattle.hk_model.specs.Models.{Declared, IsGoodLine, good_opening}
 use Rattle.hk_model.specs.Postings.{spec_of}
 use Rattle.hk_draft.proofs.Effects.{none_since}
 use Rattle.hk_model.proofs.FirstWords.{statement_apart}
 use Rattle.hk_model.proofs.FaultRanks.{first_syntax, first_name, first_limit, none_open, fault_bad}
-use Rattle.hk_lines.proofs.FirstWords.{later_apart}
-use Rattle.hk_text.proofs.Reading.{same_texts}
 use Rattle.hk_text.proofs.TokenTexts.{apart, apart_none}
 use Rattle.hk_model.proofs.Meanings.{Meaning, Means, means_statement, means_post, means_opening, means_inside, outside_inside, none_say_nothing}
 use Rattle.hk_model.proofs.MeantEffects.{some_value}
@@ -34,10 +32,6 @@ taken_name : (specs : List Specification) {texts : List (List ℕ)} {taken : Boo
 taken_name specs {name = name} {params = params} tells says = tells (codes "spec") name (in_parentheses (param_texts params)) says.texts_are says.written.0
 
 module _ (before : Declared) {line : List ℕ} {texts rest : List (List ℕ)} (has : HasTexts line texts) (begins : texts ≡ codes "spec" ∷ rest) (out : before.block ≡ None) where
-  -- such a line is not Later
-  spec_not_later : IsLaterLine before line → ⊥
-  spec_not_later later = later_apart later.later (same_texts later.has has ∙ begins) refl
-
   -- where it doesn't open a specification, it means nothing
   no_opening : ((name : List ℕ) (params : List ParamText) → IsSome before.problem → SaysLine texts (Begin name params) → ⊥) → {m : Meaning} → Means before texts m → ⊥
   no_opening none (means_statement out' says stands) = statement_apart says begins refl
@@ -48,7 +42,7 @@ module _ (before : Declared) {line : List ℕ} {texts rest : List (List ℕ)} (h
   -- and is Syntax
   pub opening_syntax : ((name : List ℕ) (params : List ParamText) → IsSome before.problem → SaysLine texts (Begin name params) → ⊥) → IsLineFault before line (Bad Syntax)
   opening_syntax none =
-      let first = first_syntax has (λ nothing. apart_none nothing begins) (none_say_nothing (λ m means. no_opening none means)) spec_not_later in
+      let first = first_syntax has (λ nothing. apart_none nothing begins) (none_say_nothing (λ m means. no_opening none means)) in
       (fault_bad (none_open before out) first.fault, first)
 
   module _ {taken : Bool} (started : IsSome before.problem) (tells : TellsTaken before.specs texts taken) where

@@ -8,6 +8,10 @@ use Rattle.hk_draft.specs.declared.kinds.RefusalKind.TheVariants.{Unfinished}
 use Rattle.hk_model.specs.LineFaults.{IsFirstFault}
 use Rattle.hk_model.specs.Models.{Declared, nothing_declared, IsGoodLine, AreGoodLines, no_line, then_line, Spells, IsBadLine, IsFirstBadLine}
 use Rattle.hk_group.specs.Problems.{PlainProblem}
+use Rattle.hk_draft.specs.Drafts.{PlainDraft, IsOf}
+use Rattle.hk_draft.proofs.OneProblem.{one_problem as problem_of_draft}
+use Rattle.hk_draft.proofs.SomeProblem.{problem_exists}
+use Rattle.hk_draft.proofs.Validity.{IsValidSoFar}
 use Rattle.hk_model.specs.Refused.{IsRefusal, refused_line, no_end}
 use Rattle.hk_model.proofs.EachLine.{Judged, found_good, found_fault, judged}
 use Rattle.hk_model.proofs.FaultRanks.{first_fault_one, fault_bad}
@@ -19,9 +23,10 @@ use Rattle.hk_model.proofs.Soundness.{IsSound, nothing_sound, good_line_sound}
 pub one_problem : (bytes : List ℕ) (p q : PlainProblem) → Spells bytes p → Spells bytes q → p ≡ q
 one_problem bytes p q x y =
     let same = good_lines_one nothing_sound x.good y.good in
-    let first : y.after.problem ≡ Some p = subst (λ after. after.problem ≡ Some p) same x.declared in
+    let first : y.after.problem ≡ Some x.draft = subst (λ after. after.problem ≡ Some x.draft) same x.declared in
     let second = y.declared in
-    cc
+    let draft : x.draft ≡ y.draft = cc in
+    problem_of_draft (subst (λ d. IsOf d p) draft x.is_of) y.is_of
 
 -- no line is bad where all are good
 no_bad_line : (front rest : List (List ℕ)) {line : List ℕ} {start before after : Declared} → IsSound start → AreGoodLines start (front ++ line ∷ rest) after → AreGoodLines start front before → IsBadLine before line → ⊥
@@ -35,7 +40,7 @@ all_good {after = after} goods first =
     no_bad_line first.front first.rest nothing_sound (subst (λ all. AreGoodLines nothing_declared all after) first.parts goods) first.good first.bad
 
 -- what is declared and ended is not unfinished
-no_end_missed : (after : Declared) {p : PlainProblem} → after.problem ≡ Some p → after.block ≡ None → (after.problem ≡ None) ⊎ IsSome after.block → ⊥
+no_end_missed : (after : Declared) {p : PlainDraft} → after.problem ≡ Some p → after.block ≡ None → (after.problem ≡ None) ⊎ IsSome after.block → ⊥
 no_end_missed after declared ended (inl none) = cc
 no_end_missed after declared ended (inr some) = true≢false (sym some ∙ ap is_some ended)
 
@@ -91,9 +96,11 @@ Outcome bytes = ((p : PlainProblem) × Spells bytes p) ⊎ ((number : ℕ) × (k
 all_good_outcome : (bytes : List ℕ) (after : Declared) → AreGoodLines nothing_declared (lines bytes) after → Outcome bytes
 all_good_outcome bytes after goods = by after.problem refl after.block refl
   where
-    by : (problem : Option PlainProblem) → after.problem ≡ problem → (block : Option Part) → after.block ≡ block → Outcome bytes
+    by : (problem : Option PlainDraft) → after.problem ≡ problem → (block : Option Part) → after.block ≡ block → Outcome bytes
     by None none block is = inr (length (lines bytes) + 1, Unfinished, no_end goods (inl none))
-    by (Some p) declared None ended = inl (p, record { after = after; good = goods; declared = declared; ended = ended })
+    by (Some draft) declared None ended =
+        let found = problem_exists draft (subst IsValidSoFar declared (good_lines_sound goods).problem) in
+        inl (found.0, record { after = after; draft = draft; good = goods; declared = declared; is_of = found.1; ended = ended })
     by (Some p) declared (Some part) is = inr (length (lines bytes) + 1, Unfinished, no_end goods (inr (ap is_some is)))
 
 module _ (bytes : List ℕ) where

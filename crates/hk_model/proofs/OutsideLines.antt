@@ -13,20 +13,18 @@ use Rattle.hk_lines.specs.Plain.{statement_of}
 use Rattle.hk_draft.specs.declared.kinds.RefusalKind.TheVariants.{Syntax, Name, Limit, Scope}
 use Rattle.hk_model.specs.inside.Faults.{IsLineFault, Posts, IsPostFaultAfter}
 use Rattle.hk_model.specs.LineFaults.{IsFirstFault}
-use Rattle.hk_model.specs.Models.{Declared, IsGoodLine, good_post, IsLaterLine}
+use Rattle.hk_model.specs.Models.{Declared, IsGoodLine, good_post}
 use Rattle.hk_lines.specs.Posts.{Post, SaysPost}
 use Rattle.hk_model.specs.Postings.{AddsPost}
 use Rattle.hk_lines.specs.PostShapes.{plain_post, IsPostShapeOf}
 use Rattle.hk_model.specs.inside.PostFaults.{IsFaultyPost, IsPostFault}
-use Rattle.hk_group.specs.Problems.{PlainProblem}
+use Rattle.hk_draft.specs.Drafts.{PlainDraft}
 use Rattle.hk_lines.specs.Shapes.{IsShapeOf, SayNothing}
 use Rattle.hk_model.proofs.FirstWords.{statement_apart}
 use Rattle.hk_draft.specs.Declares.{Declares}
 use Rattle.hk_model.proofs.CappedPosts.{post_fault_whole, adds_post_whole}
 use Rattle.hk_model.proofs.FaultRanks.{first_syntax, first_name, first_limit, first_scope, none_open, fault_bad}
 use Rattle.hk_model.proofs.FirstFaults.{effect_of_statement}
-use Rattle.hk_lines.proofs.FirstWords.{later_apart}
-use Rattle.hk_text.proofs.Reading.{same_texts}
 use Rattle.hk_text.proofs.TokenTexts.{apart, apart_none}
 use Rattle.hk_model.proofs.Meanings.{Meaning, Means, means_statement, means_post, means_opening, means_inside, outside_inside, none_say_nothing}
 
@@ -38,10 +36,10 @@ module _ (before : Declared) {line : List ℕ} {texts : List (List ℕ)} (has : 
   no_meaning silent no_post no_spec (means_opening {name = name} {params = params} out' started says) = no_spec (name ∷ in_parentheses (param_texts params)) says.texts_are
   no_meaning silent no_post no_spec (means_inside is says stands) = outside_inside out is
 
-  -- and is Syntax, where it is not Later
-  pub silent_line : SayNothing texts → ((rest : List (List ℕ)) → texts ≡ codes "post" ∷ rest → ⊥) → ((rest : List (List ℕ)) → texts ≡ codes "spec" ∷ rest → ⊥) → (IsLaterLine before line → ⊥) → IsLineFault before line (Bad Syntax)
-  silent_line silent no_post no_spec no_later =
-      let first = first_syntax has some (none_say_nothing (λ m means. no_meaning silent no_post no_spec means)) no_later in
+  -- and is Syntax
+  pub silent_line : SayNothing texts → ((rest : List (List ℕ)) → texts ≡ codes "post" ∷ rest → ⊥) → ((rest : List (List ℕ)) → texts ≡ codes "spec" ∷ rest → ⊥) → IsLineFault before line (Bad Syntax)
+  silent_line silent no_post no_spec =
+      let first = first_syntax has some (none_say_nothing (λ m means. no_meaning silent no_post no_spec means)) in
       (fault_bad (none_open before out) first.fault, first)
 
 -- what is declared after the statement of a line is declared after the line
@@ -50,10 +48,6 @@ pub effect_after : (before : Declared) {line : List ℕ} {texts : List (List ℕ
 effect_after before {line = line} has out shape shaped after (declares, same) = subst (IsGoodLine before line) (sym same) (effect_of_statement has shape shaped before out after.problem declares)
 
 module _ (before : Declared) {line : List ℕ} {rest : List (List ℕ)} (has : HasTexts line (codes "post" ∷ rest)) (out : before.block ≡ None) where
-  -- a line that begins with `post` is not Later
-  post_not_later : IsLaterLine before line → ⊥
-  post_not_later later = later_apart later.later (same_texts later.has has) refl
-
   -- where it says no post, it means nothing
   no_post_meant : ((post : Post) → IsSome before.problem → SaysPost (codes "post" ∷ rest) post → ⊥) → {m : Meaning} → Means before (codes "post" ∷ rest) m → ⊥
   no_post_meant none (means_statement out' says stands) = statement_apart says refl refl
@@ -64,10 +58,10 @@ module _ (before : Declared) {line : List ℕ} {rest : List (List ℕ)} (has : H
   -- and is Syntax
   pub post_syntax : ((post : Post) → IsSome before.problem → SaysPost (codes "post" ∷ rest) post → ⊥) → IsLineFault before line (Bad Syntax)
   post_syntax none =
-      let first = first_syntax has (λ nothing. apart_none nothing refl) (none_say_nothing (λ m means. no_post_meant none means)) post_not_later in
+      let first = first_syntax has (λ nothing. apart_none nothing refl) (none_say_nothing (λ m means. no_post_meant none means)) in
       (fault_bad (none_open before out) first.fault, first)
 
-  module _ {problem : PlainProblem} (started : before.problem ≡ Some problem) where
+  module _ {problem : PlainDraft} (started : before.problem ≡ Some problem) where
     -- the first fault of a post is that of the line that says it
     post_fault : {post : Post} → SaysPost (codes "post" ∷ rest) post → (kind : RefusalKind) → IsFaultyPost before.specs problem post kind → IsFirstFault before line kind
     post_fault says Name fault = first_name has started (means_post out (ap is_some started) says) fault
@@ -77,7 +71,7 @@ module _ (before : Declared) {line : List ℕ} {rest : List (List ℕ)} (has : H
 
   module _ (shape : PostShape) (shaped : IsPostShapeOf (codes "post" ∷ rest) shape) where
     -- where the reader stops at a post after the header, it stops at the line
-    first_after : {problem : PlainProblem} → before.problem ≡ Some problem → (fault : LineFault) → IsPostFault before.specs problem (plain_post shape) fault → IsLineFault before line fault
+    first_after : {problem : PlainDraft} → before.problem ≡ Some problem → (fault : LineFault) → IsPostFault before.specs problem (plain_post shape) fault → IsLineFault before line fault
     first_after {problem = problem} started (Bad kind) fault =
         let first = post_fault started shaped.1 kind (post_fault_whole before.specs problem shaped.0 (Bad kind) (subst (λ p. IsPostFault before.specs problem p (Bad kind)) shaped.2 fault)) in
         (fault_bad (none_open before out) first.fault, first)
@@ -87,7 +81,7 @@ module _ (before : Declared) {line : List ℕ} {rest : List (List ℕ)} (has : H
     pub first_of_post : (fault : LineFault) → IsPostFaultAfter before (plain_post shape) fault → IsLineFault before line fault
     first_of_post fault is = by before.problem refl is
       where
-        by : (problem : Option PlainProblem) → before.problem ≡ problem → IsPostFaultAfter (record before { problem = problem }) (plain_post shape) fault → IsLineFault before line fault
+        by : (problem : Option PlainDraft) → before.problem ≡ problem → IsPostFaultAfter (record before { problem = problem }) (plain_post shape) fault → IsLineFault before line fault
         by None none is = subst (IsLineFault before line) (sym is) (post_syntax (λ post some says. true≢false (sym some ∙ ap is_some none)))
         by (Some problem) started is = first_after started fault is
 

@@ -1,5 +1,5 @@
 -- A post without a fault has an effect, one with a fault has none, and the effect is determined.
-use Rattle.std.proofs.Common.{◌≡◌, ℕ, ◌<◌, ◌≤◌, ◌⊎◌, inl, inr, List, [], ◌∷◌, ◌++◌, length, Option, None, Some, refl, sym, ap, subst, ◌∙◌}
+use Rattle.std.proofs.Common.{◌≡◌, ℕ, ◌<◌, ◌≤◌, ◌⊎◌, inl, inr, List, [], ◌∷◌, length, Option, None, Some, refl, sym, ap, subst, ◌∙◌, arith}
 use Rattle.std.specs.Prelude.{All, Any}
 use Rattle.std.specs.List.Sorted.{IsStrictlyIncreasing}
 use Rattle.std.proofs.Math.Decide.{map_dec, dec_le, dec_lt}
@@ -15,8 +15,9 @@ use Rattle.hk_group.specs.declared.problem.Constraint.{Constraint}
 use Rattle.hk_group.specs.declared.problem.Constraint.TheVariants.{User}
 use Rattle.hk_draft.specs.Faults.{IsScopeFault}
 use Rattle.hk_lines.specs.Posts.{ArgText, Number, Set, Numbers, Post}
-use Rattle.hk_model.specs.Postings.{spec_of, FitsKind, FitKinds, IsSmallArg, IsArgOf, AreArgsOf, PostNameFault, no_spec, other_args, no_variable, PostLimitFault, many_posts, large_arg, PostScopeFault, AddsPost}
-use Rattle.hk_group.specs.Problems.{PlainProblem, IsWithin}
+use Rattle.hk_model.specs.Postings.{spec_of, FitsKind, FitKinds, IsSmallArg, IsArgOf, AreArgsOf, PostNameFault, no_spec, other_args, no_variable, PostLimitFault, many_posts, no_post_group, large_arg, PostScopeFault, AddsPost}
+use Rattle.hk_group.specs.Problems.{IsWithin}
+use Rattle.hk_draft.specs.Drafts.{PlainDraft, HasGroup}
 use Rattle.hk_lines.specs.Statements.{Distinct}
 use Rattle.hk_draft.specs.Declares.{place_of}
 use Rattle.hk_text.proofs.Deciding.{dec_both, dec_either, dec_not, dec_all, dec_rising, dec_test, dec_any}
@@ -24,7 +25,8 @@ use Rattle.hk_lines.proofs.Domains.{domain_of, same_domains}
 use Rattle.hk_draft.proofs.CountDecisions.{since}
 use Rattle.hk_draft.proofs.Effects.{dec_coefficient, dec_within_limit, places_of, lt_since}
 use Rattle.hk_lines.proofs.Elements.{each_from_none}
-use Rattle.hk_draft.proofs.OneEffect.{same_places, same_scopes, same_added_constraint}
+use Rattle.hk_draft.proofs.OneEffect.{same_places, same_scopes, same_added_constraint, with_constraint}
+use Rattle.hk_draft.proofs.Rooms.{dec_group}
 use Rattle.hk_draft.proofs.StatementFaults.{dec_undeclared, dec_scope_fault}
 use Rattle.hk_model.proofs.PostFaults.{same_found, all_named, named_post, large_post, small_post}
 
@@ -83,7 +85,7 @@ same_args (text ∷ texts) (a ∷ as_) bs x y = absurd y
 same_args texts as_ bs x y = absurd x
 
 -- a post has one effect
-pub post_effect_one : {specs : List Specification} {post : Post} {before after other : PlainProblem} → AddsPost specs post before after → AddsPost specs post before other → after ≡ other
+pub post_effect_one : {specs : List Specification} {post : Post} {before after other : PlainDraft} → AddsPost specs post before after → AddsPost specs post before other → after ≡ other
 post_effect_one {post = post} x y =
     let spec : x.spec ≡ y.spec = same_found x.declared y.declared in
     let args : x.args ≡ y.args = same_args post.args x.args y.args x.args_are y.args_are in
@@ -93,7 +95,7 @@ post_effect_one {post = post} x y =
     same_added_constraint posted x.adds y.adds
 
 -- the specification of a post without a fault of a name, whose kinds the arguments fit
-found_spec : (specs : List Specification) (before : PlainProblem) (post : Post) → (PostNameFault specs before post → ⊥) → (spec : Specification) × (spec_of specs post.spec ≡ Some spec) × FitKinds (param_kinds spec) post.args
+found_spec : (specs : List Specification) (before : PlainDraft) (post : Post) → (PostNameFault specs before post → ⊥) → (spec : Specification) × (spec_of specs post.spec ≡ Some spec) × FitKinds (param_kinds spec) post.args
 found_spec specs before post named = by (spec_of specs post.spec) refl
   where
     by : (found : Option Specification) → spec_of specs post.spec ≡ found → (spec : Specification) × (spec_of specs post.spec ≡ Some spec) × FitKinds (param_kinds spec) post.args
@@ -101,8 +103,8 @@ found_spec specs before post named = by (spec_of specs post.spec) refl
     by (Some spec) is = (spec, is, since (dec_fit_kinds (param_kinds spec) post.args) (λ other. named (other_args is other)))
 
 -- a post without a fault has an effect
-pub post_effect : (specs : List Specification) (before : PlainProblem) (post : Post) → (PostNameFault specs before post → ⊥) → (PostLimitFault before post → ⊥) → (PostScopeFault before post → ⊥)
-    → (after : PlainProblem) × AddsPost specs post before after
+pub post_effect : (specs : List Specification) (before : PlainDraft) (post : Post) → (PostNameFault specs before post → ⊥) → (PostLimitFault before post → ⊥) → (PostScopeFault before post → ⊥)
+    → (after : PlainDraft) × AddsPost specs post before after
 post_effect specs before post named fits ordered =
     let (spec, declared, fit) = found_spec specs before post named in
     let small = each_from_none (IsSmallArg (length post.names)) (λ arg. IsSmallArg (length post.names) arg → ⊥) (λ arg. since (dec_small_arg (length post.names) arg)) post.args (λ large. fits (large_arg large)) in
@@ -110,7 +112,7 @@ post_effect specs before post named fits ordered =
     let scope = places_of before.names post.names (λ none. named (no_variable none)) in
     let rising = since (dec_rising scope.0) (λ falls. ordered (record { scope = scope.0; places = scope.1; falls = falls })) in
     let posted : Constraint = User (record { spec = spec; args = args.0; len = length scope.0 }) scope.0 in (
-      record before { constraints = before.constraints ++ posted ∷ [] },
+      with_constraint before posted,
       record {
         spec = spec;
         declared = declared;
@@ -120,22 +122,22 @@ post_effect specs before post named fits ordered =
         args_are = args.1;
         scope = scope.0;
         names_are = record { declared = scope.1; rising = rising };
-        adds = record { room = lt_since (length before.constraints) most_constraints (λ many. fits (many_posts many)); added = refl };
+        adds = record { room = lt_since (length before.constraints) most_constraints (λ many. fits (many_posts many)); group = since (dec_group before) (λ none. fits (no_post_group none)); added = refl };
       },
     )
 
 -- a post with a fault has no effect
-pub named_no_post : {specs : List Specification} {post : Post} {before after : PlainProblem} → PostNameFault specs before post → AddsPost specs post before after → ⊥
+pub named_no_post : {specs : List Specification} {post : Post} {before after : PlainDraft} → PostNameFault specs before post → AddsPost specs post before after → ⊥
 named_no_post {specs = specs} {post = post} {before = before} fault adds = named_post specs before post adds.spec adds.declared adds.fit adds.scope adds.names_are.declared fault
 
-pub limited_no_post : {specs : List Specification} {post : Post} {before after : PlainProblem} → PostLimitFault before post → AddsPost specs post before after → ⊥
-limited_no_post {post = post} {before = before} fault adds = small_post before post adds.adds.room adds.small fault
+pub limited_no_post : {specs : List Specification} {post : Post} {before after : PlainDraft} → PostLimitFault before post → AddsPost specs post before after → ⊥
+limited_no_post {post = post} {before = before} fault adds = small_post before post (adds.adds.room, adds.adds.group) adds.small fault
 
-pub unordered_no_post : {specs : List Specification} {post : Post} {before after : PlainProblem} → PostScopeFault before post → AddsPost specs post before after → ⊥
+pub unordered_no_post : {specs : List Specification} {post : Post} {before after : PlainDraft} → PostScopeFault before post → AddsPost specs post before after → ⊥
 unordered_no_post fault adds = fault.falls (subst IsStrictlyIncreasing (same_places adds.scope fault.scope (sym adds.names_are.declared ∙ fault.places)) adds.names_are.rising)
 
 -- the faults of a post are decided
-pub dec_post_name : (specs : List Specification) (before : PlainProblem) (post : Post) → Dec (PostNameFault specs before post)
+pub dec_post_name : (specs : List Specification) (before : PlainDraft) (post : Post) → Dec (PostNameFault specs before post)
 dec_post_name specs before post = by (spec_of specs post.spec) refl (dec_undeclared before.names post.names)
   where
     with_spec : (spec : Specification) → spec_of specs post.spec ≡ Some spec → (Any (λ name. place_of before.names name ≡ None) post.names → ⊥) → Dec (FitKinds (param_kinds spec) post.args) → Dec (PostNameFault specs before post)
@@ -147,16 +149,17 @@ dec_post_name specs before post = by (spec_of specs post.spec) refl (dec_undecla
     by (Some spec) is (yes some) = yes (no_variable some)
     by (Some spec) is (no all) = with_spec spec is all (dec_fit_kinds (param_kinds spec) post.args)
 
-pub dec_post_limit : (before : PlainProblem) (post : Post) → Dec (PostLimitFault before post)
+pub dec_post_limit : (before : PlainDraft) (post : Post) → Dec (PostLimitFault before post)
 dec_post_limit before post = map_dec (large_post before post) back (dec_either
-    (dec_le most_constraints (length before.constraints))
+    (dec_not (dec_both (dec_lt (length before.constraints) most_constraints) (dec_group before)))
     (dec_any (λ arg. IsSmallArg (length post.names) arg → ⊥) (λ arg. dec_not (dec_small_arg (length post.names) arg)) post.args))
   where
-    back : PostLimitFault before post → (most_constraints ≤ length before.constraints) ⊎ Any (λ arg. IsSmallArg (length post.names) arg → ⊥) post.args
-    back (many_posts many) = inl many
+    back : PostLimitFault before post → ((length before.constraints < most_constraints) × HasGroup before → ⊥) ⊎ Any (λ arg. IsSmallArg (length post.names) arg → ⊥) post.args
+    back (many_posts many) = inl (λ room. let less = room.0 in omega (arith, less, many))
+    back (no_post_group none) = inl (λ room. none room.1)
     back (large_arg large) = inr large
 
-pub dec_post_scope : (before : PlainProblem) (post : Post) → Dec (PostScopeFault before post)
+pub dec_post_scope : (before : PlainDraft) (post : Post) → Dec (PostScopeFault before post)
 dec_post_scope before post = map_dec
     (λ (fault : IsScopeFault before (Distinct post.names)). record { scope = fault.scope; places = fault.places; falls = fault.falls })
     (λ fault. record { scope = fault.scope; places = fault.places; falls = fault.falls })

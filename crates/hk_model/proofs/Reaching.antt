@@ -7,7 +7,8 @@ use Rattle.hk_draft.specs.declared.faults.LineFault.TheVariants.{Bad, NoMemory}
 use Rattle.hk_model.specs.declared.refusal.ModelError.{ModelError}
 use Rattle.hk_draft.specs.declared.kinds.RefusalKind.TheVariants.{Unfinished}
 use Rattle.hk_model.specs.Models.{Declared, nothing_declared, IsGoodLine, AreGoodLines, Spells, IsBadLine, IsFirstBadLine}
-use Rattle.hk_group.specs.Problems.{PlainProblem, IsValid}
+use Rattle.hk_group.specs.Problems.{PlainProblem}
+use Rattle.hk_draft.specs.Drafts.{PlainDraft, IsOf, IsValidDraft}
 use Rattle.hk_model.specs.inside.Faults.{IsLineFault, IsErrorAt}
 use Rattle.hk_model.specs.Refused.{IsRefusal, refused_line, no_end, IsErrorOf}
 use Rattle.hk_model.proofs.GoodLines.{good_lines_more, good_lines_sound}
@@ -59,10 +60,11 @@ unfinished {bytes = bytes} {number = number} error reached over missed is =
     let last : length (lines bytes) + 1 ≡ number = ap (λ ls. length ls + 1) (all_done reached over) ∙ sym reached.counted in
     subst (IsErrorOf bytes) (sym is) (subst (λ n. IsRefusal bytes n Unfinished) last (no_end (all_good reached over) missed))
 
--- the problem that is declared, where no specification is open, is what the bytes spell
-pub all_spelled : {bytes rest : List ℕ} {declared : Declared} {number : ℕ} {problem : PlainProblem} → Reached bytes declared rest number → length rest ≡ 0 → (declared.problem ≡ Some problem) × (declared.block ≡ None) → Spells bytes problem
-all_spelled {declared = declared} reached over ends = record { after = declared; good = all_good reached over; declared = ends.0; ended = ends.1 }
+-- the problem of what is declared, where no specification is open, is what the bytes spell
+pub all_spelled : {bytes rest : List ℕ} {declared : Declared} {number : ℕ} {draft : PlainDraft} {problem : PlainProblem} → Reached bytes declared rest number → length rest ≡ 0 → (declared.problem ≡ Some draft) × (declared.block ≡ None) → IsOf draft problem
+    → Spells bytes problem
+all_spelled {declared = declared} {draft = draft} reached over ends is = record { after = declared; draft = draft; good = all_good reached over; declared = ends.0; is_of = is; ended = ends.1 }
 
 -- and it is valid
-pub all_valid : {bytes rest : List ℕ} {declared : Declared} {number : ℕ} (problem : PlainProblem) → Reached bytes declared rest number → declared.problem ≡ Some problem → IsValid problem
-all_valid problem reached is = let sound = good_lines_sound reached.good in subst IsValidSoFar is sound.problem
+pub all_valid : {bytes rest : List ℕ} {declared : Declared} {number : ℕ} (draft : PlainDraft) → Reached bytes declared rest number → declared.problem ≡ Some draft → IsValidDraft draft
+all_valid draft reached is = let sound = good_lines_sound reached.good in subst IsValidSoFar is sound.problem

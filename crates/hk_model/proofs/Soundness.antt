@@ -10,7 +10,8 @@ use Rattle.hk_spec.specs.Specifications.{Specification, IsSpecification, IsWitho
 use Rattle.hk_model.specs.Models.{Declared, nothing_declared, IsGoodLine, good_empty, good_statement, good_post, good_opening, good_inside, good_end}
 use Rattle.hk_lines.specs.Posts.{Post, SaysPost}
 use Rattle.hk_model.specs.Postings.{AddsPost}
-use Rattle.hk_group.specs.Problems.{PlainProblem, IsScope, IsPosted, IsValid}
+use Rattle.hk_group.specs.Problems.{IsScope, IsPosted}
+use Rattle.hk_draft.specs.Drafts.{PlainDraft, IsValidDraft}
 use Rattle.hk_parse.proofs.PartRules.{begins_valid, good_after_valid, whole_valid, whole_no_best}
 use Rattle.hk_model.proofs.GradedLines.{IsGradedPart, begins_graded, whole_graded, good_after_graded}
 use Rattle.hk_group.proofs.SumSizes.{scope_short}
@@ -49,7 +50,7 @@ names_some : {texts : List (List ℕ)} {post : Post} → SaysPost texts post →
 names_some says = let names = ap length says.names.names_are in omega (arith, names)
 
 -- a post that a line says keeps a problem valid
-post_valid : {texts : List (List ℕ)} {specs : List Specification} {post : Post} {before after : PlainProblem} → SaysPost texts post → AddsPost specs post before after → All IsDeclared specs → IsValid before → IsValid after
+post_valid : {texts : List (List ℕ)} {specs : List Specification} {post : Post} {before after : PlainDraft} → SaysPost texts post → AddsPost specs post before after → All IsDeclared specs → IsValidDraft before → IsValidDraft after
 post_valid {specs = specs} {post = post} {before = before} says adds declared valid = constraint_valid (scope, posted) adds.adds valid
   where
     scope : IsScope (length before.names) adds.scope

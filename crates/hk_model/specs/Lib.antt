@@ -5,7 +5,6 @@ pub mod Postings
 pub mod Refused
 pub mod inside
 pub use Rattle.hk_base.specs.Sets
-pub use Rattle.hk_lines.specs.Later
 pub use Rattle.hk_lines.specs.Phrases
 pub use Rattle.hk_lines.specs.Posts
 pub use Rattle.hk_lines.specs.Statements

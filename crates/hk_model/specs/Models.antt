@@ -1,5 +1,5 @@
 -- Which problem the bytes of a model spell, and which of its lines is the first bad one.
-use Rattle.std.specs.Prelude.{◌≡◌, ℕ, ◌+◌, ◌<◌, List, [], ◌∷◌, ◌++◌, length, Option, None, Some, Contains}
+use Rattle.std.specs.Prelude.{◌≡◌, ℕ, ◌+◌, ◌<◌, List, [], ◌∷◌, ◌++◌, length, Option, None, Some}
 use Rattle.hk_text.specs.Lines.{lines}
 use Rattle.hk_text.specs.Tokens.{HasTexts}
 use Rattle.hk_kinds.specs.declared.kinds.Kind.{Kind}
@@ -14,13 +14,13 @@ use Rattle.hk_model.specs.Limits.{most_specifications}
 use Rattle.hk_lines.specs.Posts.{Post, SaysPost}
 use Rattle.hk_model.specs.Postings.{AddsPost, spec_of}
 use Rattle.hk_group.specs.Problems.{PlainProblem}
+use Rattle.hk_draft.specs.Drafts.{PlainDraft, IsOf}
 use Rattle.hk_lines.specs.Statements.{Statement, Says}
 use Rattle.hk_draft.specs.Declares.{Declares}
-use Rattle.hk_lines.specs.Later.{later_words}
 
 -- what the lines so far declare: the problem, None before the header; the specifications; and the part of a specification that isn't ended
 pub record Declared : Type 0 where
-  pub problem : Option PlainProblem
+  pub problem : Option PlainDraft
   pub specs : List Specification
   pub block : Option Part
 
@@ -50,13 +50,13 @@ wrong_latest part = by (latest_step part) part.test
 -- a good line: one without tokens, which has no effect; outside of a specification one that says a statement which may stand there, a post, or the first line of a specification; in a specification one of its lines, whose test or step has an allowed sense, or its end
 pub data IsGoodLine (before : Declared) (line : List ℕ) : Declared → Type 0 where
   good_empty : HasTexts line [] → IsGoodLine before line before
-  good_statement : {texts : List (List ℕ)} {statement : Statement} {problem : Option PlainProblem}
+  good_statement : {texts : List (List ℕ)} {statement : Statement} {problem : Option PlainDraft}
       → HasTexts line texts → before.block ≡ None → Says texts statement → Declares before.problem statement problem
       → IsGoodLine before line (record before { problem = problem })
-  good_post : {texts : List (List ℕ)} {post : Post} {problem after : PlainProblem}
+  good_post : {texts : List (List ℕ)} {post : Post} {problem after : PlainDraft}
       → HasTexts line texts → before.block ≡ None → SaysPost texts post → before.problem ≡ Some problem → AddsPost before.specs post problem after
       → IsGoodLine before line (record before { problem = Some after })
-  good_opening : {texts : List (List ℕ)} {name : List ℕ} {params : List ParamText} {problem : PlainProblem} {part : Part}
+  good_opening : {texts : List (List ℕ)} {name : List ℕ} {params : List ParamText} {problem : PlainDraft} {part : Part}
       → HasTexts line texts → before.block ≡ None → SaysLine texts (Begin name params) → before.problem ≡ Some problem → Opens before.specs name params part
       → IsGoodLine before line (record before { block = Some part })
   good_inside : {texts : List (List ℕ)} {part after : Part} {text : LineText}
@@ -72,26 +72,19 @@ pub data AreGoodLines : Declared → List (List ℕ) → Declared → Type 0 whe
   then_line : {before between after : Declared} {line : List ℕ} {more : List (List ℕ)}
       → IsGoodLine before line between → AreGoodLines between more after → AreGoodLines before (line ∷ more) after
 
--- the bytes of a model spell the problem: all lines are good, it is what they declare, and no specification is left open
+-- the bytes of a model spell the problem: all lines are good, it is what they declare, each group composed of its parts, and
+-- no specification is left open
 pub record Spells (bytes : List ℕ) (problem : PlainProblem) : Type 0 where
   pub after : Declared
+  pub draft : PlainDraft
   pub good : AreGoodLines nothing_declared (lines bytes) after
-  pub declared : after.problem ≡ Some problem
+  pub declared : after.problem ≡ Some draft
+  pub is_of : IsOf draft problem
   pub ended : after.block ≡ None
 
 -- a bad line, by what was declared before it: nothing makes it good
 abbrev pub IsBadLine : Declared → List ℕ → Type 0
 IsBadLine before line = (after : Declared) → IsGoodLine before line after → ⊥
-
--- a line after the header and outside of a specification, all of its bytes in tokens, that begins with the word of a statement which isn't read yet
-pub record IsLaterLine (before : Declared) (line : List ℕ) : Type 0 where
-  pub problem : PlainProblem
-  pub started : before.problem ≡ Some problem
-  pub outside : before.block ≡ None
-  pub word : List ℕ
-  pub more : List (List ℕ)
-  pub has : HasTexts line (word ∷ more)
-  pub later : Contains later_words word
 
 -- the first bad line of a model, its number, counted from 1, and what was declared before it
 pub record IsFirstBadLine (bytes : List ℕ) (number : ℕ) (line : List ℕ) (before : Declared) : Type 0 where

@@ -9,7 +9,8 @@ use Rattle.hk_spec.specs.Specifications.{Specification, param_kinds}
 use Rattle.hk_group.specs.Limits.{most_constraints, value_count, greatest_coefficient}
 use Rattle.hk_base.specs.Limits.{number_limit}
 use Rattle.hk_group.specs.declared.problem.Constraint.TheVariants.{User}
-use Rattle.hk_group.specs.Problems.{PlainProblem, IsWithin}
+use Rattle.hk_group.specs.Problems.{IsWithin}
+use Rattle.hk_draft.specs.Drafts.{PlainDraft, HasGroup}
 use Rattle.hk_draft.specs.Declares.{place_of, AreNamesOf, AddsConstraint}
 use Rattle.hk_lines.specs.ValueSets.{IsSetOf}
 use Rattle.hk_lines.specs.Posts.{ArgText, Number, Numbers, Post, Set}
@@ -51,24 +52,25 @@ AreArgsOf (text ∷ texts) (arg ∷ args) = IsArgOf text arg × AreArgsOf texts 
 AreArgsOf _ _ = ⊥
 
 -- the specification isn't declared, or its arguments are others in number or form, or a name of the scope isn't declared
-pub data PostNameFault (specs : List Specification) (before : PlainProblem) (post : Post) : Type 0 where
+pub data PostNameFault (specs : List Specification) (before : PlainDraft) (post : Post) : Type 0 where
   no_spec : spec_of specs post.spec ≡ None → PostNameFault specs before post
   other_args : {s : Specification} → spec_of specs post.spec ≡ Some s → (FitKinds (param_kinds s) post.args → ⊥) → PostNameFault specs before post
   no_variable : Any (λ name. place_of before.names name ≡ None) post.names → PostNameFault specs before post
 
--- there is no room for a constraint, or an argument passes its limit
-pub data PostLimitFault (before : PlainProblem) (post : Post) : Type 0 where
+-- there is no room for a constraint or for the group that it begins, or an argument passes its limit
+pub data PostLimitFault (before : PlainDraft) (post : Post) : Type 0 where
   many_posts : most_constraints ≤ length before.constraints → PostLimitFault before post
+  no_post_group : (HasGroup before → ⊥) → PostLimitFault before post
   large_arg : Any (λ arg. IsSmallArg (length post.names) arg → ⊥) post.args → PostLimitFault before post
 
 -- the names of a scope don't stand strictly in the order of their declaration
-pub record PostScopeFault (before : PlainProblem) (post : Post) : Type 0 where
+pub record PostScopeFault (before : PlainDraft) (post : Post) : Type 0 where
   pub scope : List ℕ
   pub places : map (place_of before.names) post.names ≡ map Some scope
   pub falls : IsStrictlyIncreasing scope → ⊥
 
 -- a new constraint: that the specification accepts the values of the scope
-pub record AddsPost (specs : List Specification) (post : Post) (before after : PlainProblem) : Type 0 where
+pub record AddsPost (specs : List Specification) (post : Post) (before after : PlainDraft) : Type 0 where
   pub spec : Specification
   pub declared : spec_of specs post.spec ≡ Some spec
   pub fit : FitKinds (param_kinds spec) post.args

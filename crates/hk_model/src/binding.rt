@@ -1,7 +1,8 @@
 //! What a post declares, after the lines before it.
 
-ghost use Rattle.std.specs.Prelude.{◌≡◌, ◌≤◌, ◌<◌, ◌↔◌, ◌⊎◌, ℕ, All, Any, false, length, map, None, Some, IsNone, IsTrue, OnErr, OnOk, IfOk, IfErr, IfSome};
+ghost use Rattle.std.specs.Prelude.{◌≡◌, ◌<◌, ◌↔◌, ◌⊎◌, ℕ, All, Any, false, length, map, None, Some, IsNone, IsTrue, OnErr, OnOk, IfOk, IfErr, IfSome};
 ghost use Rattle.hk_group.specs.Limits.{most_constraints, value_count, greatest_coefficient};
+ghost use Rattle.hk_draft.specs.Drafts.{HasGroup};
 ghost use Rattle.hk_model.specs.Postings.{AddsPost, FitsKind, FitKinds, IsSmallArg, IsArgOf, AreArgsOf, spec_of};
 ghost use Rattle.hk_model.specs.inside.PostFaults.{HasNoFit, IsPostFault};
 ghost use Rattle.hk_lines.specs.PostShapes.{args_of, plain_arg, plain_post};
@@ -10,7 +11,7 @@ ghost use Rattle.hk_spec.specs.Specifications.{param_kinds};
 
 use hk_base::List;
 use hk_draft::{Draft, LineFault, RefusalKind, is_small_set, is_within_limit, places_of};
-use hk_group::limits::{COEFFICIENT, CONSTRAINTS, VALUES};
+use hk_group::limits::{COEFFICIENT, VALUES};
 use hk_group::{Constraint, is_rising};
 use hk_lines::{PostArg, PostShape, Values, set_of_values};
 use hk_spec::{Arg, Bound, Param, ParamKind, Spec};
@@ -133,11 +134,11 @@ fn fits_kind(kind: ParamKind, arg: &PostArg) -> bool
 /// Whether there is no room for a post, or one of its arguments passes a limit, on a scope of so
 /// many variables.
 fn post_passes_limit(draft: &Draft, args: &[PostArg], count: usize) -> bool
-    ensures passes { IsTrue result → (most_constraints ≤ length draft.now.constraints) ⊎ Any (λ arg. IsSmallArg count arg → ⊥) (args_of args.now) }
-    ensures room { result ≡ false → length draft.now.constraints < most_constraints }
+    ensures passes { IsTrue result → ((length draft.now.constraints < most_constraints) × HasGroup draft.now → ⊥) ⊎ Any (λ arg. IsSmallArg count arg → ⊥) (args_of args.now) }
+    ensures room { result ≡ false → (length draft.now.constraints < most_constraints) × HasGroup draft.now }
     ensures small { result ≡ false → All (IsSmallArg count) (args_of args.now) }
 {
-    if draft.constraint_count() >= CONSTRAINTS {
+    if !draft.has_room() {
         return true;
     }
     !are_small_args(args, count)

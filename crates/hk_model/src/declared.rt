@@ -7,7 +7,6 @@ ghost use Rattle.hk_text.specs.Lexemes.{IsWord};
 ghost use Rattle.hk_text.specs.Texts.{texts_of};
 ghost use Rattle.hk_text.specs.Tokens.{HasTexts, IsTokenIn};
 ghost use Rattle.hk_lines.specs.Plain.{statement_of};
-ghost use Rattle.hk_lines.specs.Later.{BeginsLater};
 ghost use Rattle.hk_model.specs.inside.Faults.{EndsBlock, IsLineFault, IsPostFaultAfter, Posts, as_begin_fault, as_line_fault};
 ghost use Rattle.hk_draft.specs.Faults.{IsStatementFault};
 ghost use Rattle.hk_model.specs.Models.{IsGoodLine, nothing_declared, wrong_latest};
@@ -20,7 +19,7 @@ use crate::limits::SPECIFICATIONS;
 use hk_base::List;
 use hk_draft::{Draft, LineFault, RefusalKind, declare};
 use hk_grade::{Properties, Sense, wrong_step, wrong_test};
-use hk_lines::{PostShape, Shape, begins_later, post_of, shape_of};
+use hk_lines::{PostShape, Shape, post_of, shape_of};
 use hk_parse::{Block, BlockFault};
 use hk_spec::Spec;
 use hk_text::{Token, after_text, word_of};
@@ -130,9 +129,6 @@ impl Declared {
         ensures err { IfErr result (IsLineFault self.old line.now) }
         ensures unchanged { OnErr result (self.new ≡ self.old) }
     {
-        if self.is_later(line, tokens) {
-            return Err(LineFault::Bad(RefusalKind::Later));
-        }
         if let Some(rest) = after_text(line, tokens, b"post") {
             return self.read_post(alloc, line, rest);
         }
@@ -144,14 +140,6 @@ impl Declared {
             Ok(None) => Err(LineFault::Bad(RefusalKind::Syntax)),
             Err(_) => Err(LineFault::NoMemory),
         }
-    }
-
-    /// Whether the tokens, after the header, begin a statement that isn't read yet.
-    fn is_later(&self, line: &[u8], tokens: &[Token]) -> bool
-        requires { All (IsTokenIn line.now) tokens.now }
-        ensures { IsTrue result ↔ (IsSome self.now.problem × BeginsLater (texts_of line.now tokens.now)) }
-    {
-        self.is_started() && begins_later(line, tokens)
     }
 
     /// Declares what a line of this shape says. An error leaves all as it was.

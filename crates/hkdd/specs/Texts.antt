@@ -2,7 +2,7 @@
 use Rattle.std.specs.Prelude.{ℕ, List, ◌++◌, codes}
 use Rattle.std.specs.Fmt.{decimal}
 use Rattle.hk_draft.specs.declared.kinds.RefusalKind.{RefusalKind}
-use Rattle.hk_draft.specs.declared.kinds.RefusalKind.TheVariants.{Text, Later, Syntax, Name, Limit, Scope, Grade, Unfinished}
+use Rattle.hk_draft.specs.declared.kinds.RefusalKind.TheVariants.{Text, Syntax, Name, Limit, Scope, Grade, Unfinished}
 
 -- how the program is called
 abbrev pub usage_text : List ℕ
@@ -19,7 +19,6 @@ too_large_text = codes "too large\n"
 -- the name of a kind of refusal
 abbrev pub kind_text : RefusalKind → List ℕ
 kind_text Text = codes "Text"
-kind_text Later = codes "Later"
 kind_text Syntax = codes "Syntax"
 kind_text Name = codes "Name"
 kind_text Limit = codes "Limit"

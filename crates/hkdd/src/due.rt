@@ -105,7 +105,6 @@ fn push_kind(text: &mut Bytes, kind: RefusalKind) -> Result<(), AllocError>
 {
     match kind {
         RefusalKind::Text => text.push_all(b"Text"),
-        RefusalKind::Later => text.push_all(b"Later"),
         RefusalKind::Syntax => text.push_all(b"Syntax"),
         RefusalKind::Name => text.push_all(b"Name"),
         RefusalKind::Limit => text.push_all(b"Limit"),

@@ -14,7 +14,7 @@ use Rattle.hk_model.specs.Models.{Declared, IsBadLine}
 use Rattle.hk_lines.specs.Posts.{Post}
 use Rattle.hk_model.specs.Postings.{AddsPost}
 use Rattle.hk_model.specs.inside.PostFaults.{IsPostFault}
-use Rattle.hk_group.specs.Problems.{PlainProblem}
+use Rattle.hk_draft.specs.Drafts.{PlainDraft}
 
 -- why the reader stops at a line, by what was declared before it: it is bad, and has this fault first; want of memory says nothing
 abbrev pub IsLineFault : Declared → List ℕ → LineFault → Type 0
@@ -40,8 +40,8 @@ as_begin_fault taken fault = as_line_fault fault
 
 -- a post after the header, and what is declared after it
 pub record Posts (before : Declared) (post : Post) (after : Declared) : Type 0 where
-  pub problem : PlainProblem
-  pub next : PlainProblem
+  pub problem : PlainDraft
+  pub next : PlainDraft
   pub started : before.problem ≡ Some problem
   pub adds : AddsPost before.specs post problem next
   pub declared : after ≡ record before { problem = Some next }
@@ -50,7 +50,7 @@ pub record Posts (before : Declared) (post : Post) (after : Declared) : Type 0 w
 abbrev pub IsPostFaultAfter : Declared → Post → LineFault → Type 0
 IsPostFaultAfter before post fault = IsFaultIn before.problem
   where
-    IsFaultIn : Option PlainProblem → Type 0
+    IsFaultIn : Option PlainDraft → Type 0
     IsFaultIn None = fault ≡ Bad Syntax
     IsFaultIn (Some problem) = IsPostFault before.specs problem post fault
 

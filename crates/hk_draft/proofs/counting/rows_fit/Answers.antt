@@ -1,10 +1,12 @@
-use Rattle.std.proofs.Common.{true≢false, sym, ◌∙◌, arith}
-use Rattle.hk_draft.proofs.CountTests.{rows_small, small_rows}
+use Rattle.std.proofs.Common.{true≢false, sym, ◌∙◌}
+use Rattle.hk_draft.proofs.CountTests.{rows_some, rows_small, small_rows}
 use Rattle.hk_draft.proofs.counting.rows_fit.Goals as goal
 
 pub returns-clause-fits : goal.returns-clause-fits
 returns-clause-fits c = λ passes. record {
-  room = omega (arith, c.constraint_count.ensures, c.if-constraint_count-ge-CONSTRAINTS.false);
+  some = rows_some c.args.rows.now (sym c.is_empty.ensures ∙ c.if-is_empty.false);
+  room = (c.has_room.ensures.0 c.if-not-has_room.false).0;
+  group = (c.has_room.ensures.0 c.if-not-has_room.false).1;
   small = rows_small c.args.rows.now (c.are_small_rows.ensures.0 passes);
 }
 

@@ -1,12 +1,13 @@
-use Rattle.std.proofs.Common.{◌≡◌, List, ℕ, map, Bor, OnOk, sym, subst, rules}
+use Rattle.std.proofs.Common.{◌≡◌, List, ℕ, map, Bor, Some, OnOk, sym, subst, rules}
 use Rattle.std.proofs.lemmas.Result.{on_ok_weaker}
 use Rattle.hk_lines.specs.declared.phrases.Values.{Values}
 use Rattle.hk_lines.specs.declared.phrases.Term.{Term}
-use Rattle.hk_lines.specs.declared.shapes.Shape.TheVariants.{Start, Variable, Distinct, Among, Sequence, Gcc, Total, Objective}
+use Rattle.hk_lines.specs.declared.shapes.Shape.TheVariants.{Start, Variable, Distinct, Among, Sequence, Gcc, Total, Objective, NewGroup}
 use Rattle.hk_lines.specs.Plain.{values_of, plain_counting, rows_of}
 use Rattle.hk_draft.specs.inside.Fits.{AddsDistinct, AddsAmong, AddsSequence, AddsGcc, AddsTotal, AddsLeast}
-use Rattle.hk_lines.specs.Statements.{Header}
-use Rattle.hk_draft.specs.Declares.{AddsVariable, Declares, declares_header, declares_variable}
+use Rattle.hk_lines.specs.Statements.{Header, NewGroup as GroupStatement}
+use Rattle.hk_draft.specs.Declares.{AddsVariable, Declares, declares_header, declares_variable, declares_group}
+use Rattle.hk_draft.specs.Drafts.{PlainDraft}
 use Rattle.hk_lines.specs.declared.counts.Row.{Row}
 use Rattle.hk_draft.proofs.CountFitting.{among_declares, sequence_declares, gcc_declares}
 use Rattle.hk_draft.proofs.Fitting.{distinct_declares, total_declares, objective_declares, declares_at}
@@ -63,3 +64,7 @@ returns-in-Some-draft-6-clause-ok c =
     on_ok_weaker c.declare_objective.result (λ adds.
     declares_at (Objective c.in-Objective.terms) c.in-Some-draft-6.is c.in-Objective.is (objective_declares c.in-Objective.terms
     (subst (λ (terms : List Term). AddsLeast terms c.in-Some-draft-6.draft c.declare_objective.new.draft) slice adds))) c.declare_objective.ensures.ok
+
+pub returns-in-Some-draft-7-clause-ok : goal.returns-in-Some-draft-7-clause-ok
+returns-in-Some-draft-7-clause-ok c = declares_at NewGroup c.in-Some-draft-7.is c.in-NewGroup.is
+    (subst (λ (draft : PlainDraft). Declares (Some c.in-Some-draft-7.draft) GroupStatement (Some draft)) (sym c.begin_group.ensures) declares_group)

@@ -1,9 +1,9 @@
 use Rattle.std.proofs.Common.{◌≡◌, true≢false, sym, ◌∙◌, subst, rules}
 use Rattle.std.specs.List.Sorted.{IsStrictlyIncreasing}
 use Rattle.hk_lines.specs.Plain.{terms_of}
-use Rattle.hk_draft.specs.Faults.{second_objective, large_coef}
+use Rattle.hk_draft.specs.Faults.{second_objective}
 use Rattle.hk_lines.specs.Statements.{Objective}
-use Rattle.hk_draft.proofs.Fitting.{place_fault, objective_named, objective_fits, some_large}
+use Rattle.hk_draft.proofs.Fitting.{place_fault, objective_named, objective_fits}
 use Rattle.hk_draft.proofs.declaring.declare_objective.Goals as goal
 
 pub returns-in_err-scope-clause-err : goal.returns-in_err-scope-clause-err
@@ -14,10 +14,9 @@ returns-in_err-scope-clause-err c =
 pub returns-then-has_objective-clause-err : goal.returns-then-has_objective-clause-err
 returns-then-has_objective-clause-err c = second_objective (c.has_objective.ensures.0 c.if-has_objective.true)
 
-pub returns-then-not-are_coefficients-clause-err :
-    goal.returns-then-not-are_coefficients-clause-err
-returns-then-not-are_coefficients-clause-err c = (
-  large_coef (some_large c.args.terms.now (λ all. true≢false (sym (c.are_coefficients.ensures.1 all) ∙ c.if-not-are_coefficients.true))),
+pub returns-then-not-objective_fits-clause-err : goal.returns-then-not-objective_fits-clause-err
+returns-then-not-objective_fits-clause-err c = (
+  c.objective_fits.ensures.large c.if-not-objective_fits.true,
   objective_named c.in_ok-scope.scope c.in_ok-scope.ensures.ok (λ some. true≢false (sym (c.has_objective.ensures.1 some) ∙ c.if-has_objective.false)),
 )
 
@@ -30,5 +29,5 @@ returns-then-not-is_rising-clause-err c =
         falls = λ rising. true≢false (sym (c.is_rising.ensures.1 (subst IsStrictlyIncreasing (sym slice) rising)) ∙ c.if-not-is_rising.true);
       },
       objective_named c.in_ok-scope.scope c.in_ok-scope.ensures.ok (λ some. true≢false (sym (c.has_objective.ensures.1 some) ∙ c.if-has_objective.false)),
-      objective_fits c.args.terms.now (c.are_coefficients.ensures.0 c.if-not-are_coefficients.false),
+      objective_fits c.args.terms.now (c.objective_fits.ensures.fits c.if-not-objective_fits.false).0 (c.objective_fits.ensures.fits c.if-not-objective_fits.false).1,
     )

@@ -1,4 +1,4 @@
-use Rattle.std.proofs.Common.{◌≡◌, ◌++◌, ◌∷◌, [], ◌⊎◌, ◌≤◌, ◌<◌, All, Any, Bor, List, ℕ, length, map, true≢false, refl, sym, ap, ◌∙◌, subst, rules}
+use Rattle.std.proofs.Common.{◌≡◌, ◌⊎◌, ◌<◌, All, Any, Bor, List, ℕ, length, map, true≢false, refl, sym, ap, ◌∙◌, subst, rules}
 use Rattle.std.specs.List.Sorted.{IsStrictlyIncreasing}
 use Rattle.std.proofs.lemmas.List.{length-map}
 use Rattle.hk_group.specs.Limits.{most_constraints}
@@ -7,8 +7,9 @@ use Rattle.hk_group.specs.declared.problem.Constraint.TheVariants.{User}
 use Rattle.hk_lines.specs.Posts.{Post}
 use Rattle.hk_model.specs.Postings.{IsSmallArg}
 use Rattle.hk_lines.specs.PostShapes.{args_of}
-use Rattle.hk_group.specs.Problems.{PlainProblem}
+use Rattle.hk_draft.specs.Drafts.{PlainDraft, HasGroup}
 use Rattle.hk_lines.proofs.Membership.{now_of}
+use Rattle.hk_draft.proofs.OneEffect.{with_constraint}
 use Rattle.hk_model.proofs.PostFaults.{places_within, unfit_post, named_post, large_post, small_post, posted}
 use Rattle.hk_model.proofs.binding.add_post.Goals as goal
 
@@ -21,9 +22,9 @@ small_on : (names : List (Bor (List ℕ))) (args : List PostArg) → All (IsSmal
 small_on names args small = subst (λ n. All (IsSmallArg n) (args_of args)) (sym (length-map names now_of)) small
 
 -- and so are ones that are not
-large_on : (before : PlainProblem) (names : List (Bor (List ℕ))) (args : List PostArg) → (most_constraints ≤ length before.constraints) ⊎ Any (λ arg. IsSmallArg (length names) arg → ⊥) (args_of args)
-    → (most_constraints ≤ length before.constraints) ⊎ Any (λ arg. IsSmallArg (length (map now_of names)) arg → ⊥) (args_of args)
-large_on before names args large = subst (λ n. (most_constraints ≤ length before.constraints) ⊎ Any (λ arg. IsSmallArg n arg → ⊥) (args_of args)) (sym (length-map names now_of)) large
+large_on : (before : PlainDraft) (names : List (Bor (List ℕ))) (args : List PostArg) → ((length before.constraints < most_constraints) × HasGroup before → ⊥) ⊎ Any (λ arg. IsSmallArg (length names) arg → ⊥) (args_of args)
+    → ((length before.constraints < most_constraints) × HasGroup before → ⊥) ⊎ Any (λ arg. IsSmallArg (length (map now_of names)) arg → ⊥) (args_of args)
+large_on before names args large = subst (λ n. ((length before.constraints < most_constraints) × HasGroup before → ⊥) ⊎ Any (λ arg. IsSmallArg n arg → ⊥) (args_of args)) (sym (length-map names now_of)) large
 
 pub returns-in_default-clause-err : goal.returns-in_default-clause-err
 returns-in_default-clause-err c = unfit_post c.args.specs.now c.args.draft.now (post_of c.args.name c.args.args c.args.names) (c.in_default.ensures.none refl)
@@ -57,7 +58,7 @@ pub returns-in_ok-add_constraint-in-Ok-clause-ok : goal.returns-in_ok-add_constr
 returns-in_ok-add_constraint-in-Ok-clause-ok c =
     let slice : c.as_slice.result.now ≡ c.in_ok-scope.scope = c.as_slice.ensures in
     let whole : c.as_slice-2.result.now ≡ c.in_ok-scope.scope = c.as_slice-2.ensures in
-    let added : c.add_constraint.new.self ≡ record c.args.draft.now { constraints = c.args.draft.now.constraints ++ User c.in-Ok.bound c.in_ok-scope.scope ∷ [] } = search rules in
+    let added : c.add_constraint.new.self ≡ with_constraint c.args.draft.now (User c.in-Ok.bound c.in_ok-scope.scope) = search rules in
     posted (post_of c.args.name c.args.args c.args.names) c.in-Some.spec.now c.in-Ok.bound c.in_ok-scope.scope c.in-Some.ensures.declared c.in-Some.ensures.fit
     (c.post_passes_limit.ensures.room c.if-post_passes_limit.false)
     (small_on c.args.names.now c.args.args.now (c.post_passes_limit.ensures.small c.if-post_passes_limit.false))

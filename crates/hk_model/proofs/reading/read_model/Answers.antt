@@ -2,7 +2,7 @@ use Rattle.std.proofs.Common.{◌≡◌, [], length, refl, sym, ◌∙◌, subst
 use Rattle.std.specs.Prelude.{IfOk}
 use Rattle.std.proofs.lemmas.Result.{IfOk-weaker}
 use Rattle.hk_model.specs.Models.{no_line, Spells}
-use Rattle.hk_group.specs.Problems.{PlainProblem}
+use Rattle.hk_draft.specs.Drafts.{IsOf}
 use Rattle.hk_model.proofs.FaultRanks.{zero_from_test}
 use Rattle.hk_model.proofs.Reaching.{Reached, reached_more, refused_at, unfinished, all_spelled, all_valid}
 use Rattle.hk_model.proofs.reading.read_model.Goals as goal
@@ -29,6 +29,5 @@ returns-in-None-clause-refused c =
 pub returns-in-Some-clause-spells : goal.returns-in-Some-clause-spells
 returns-in-Some-clause-spells c =
     let over : length c.lines.rest.now ≡ 0 = zero_from_test (length c.lines.rest.now) (sym c.is_empty.ensures ∙ c.lines-test.false) in
-    let kept : IfOk c.map_err.result (λ (problem : PlainProblem). problem ≡ c.in-Some.draft) = search rules in
-    IfOk-weaker c.map_err.result (λ (problem : PlainProblem). problem ≡ c.in-Some.draft) (Spells c.args.bytes.now)
-    (λ problem same. subst (Spells c.args.bytes.now) (sym same) (all_spelled c.lines.invariant over c.in-Some.ensures.some)) kept
+    let kept : IfOk c.map_err.result (IsOf c.in-Some.draft) = search rules in
+    IfOk-weaker c.map_err.result (IsOf c.in-Some.draft) (Spells c.args.bytes.now) (λ problem is. all_spelled c.lines.invariant over c.in-Some.ensures.some is) kept

@@ -1,11 +1,10 @@
-use Rattle.std.proofs.Common.{refl, sym, ◌∙◌, true≢false}
+use Rattle.std.proofs.Common.{refl, sym, ◌∙◌}
 use Rattle.std.proofs.lemmas.Result.{on_ok_weaker, IfErr-weaker}
 use Rattle.hk_text.specs.Texts.{texts_of}
 use Rattle.hk_lines.specs.Plain.{statement_of}
 use Rattle.hk_model.specs.inside.Faults.{IsLineFault}
 use Rattle.hk_draft.specs.Faults.{IsStatementFault}
 use Rattle.hk_lines.specs.Shapes.{IsShapeOf}
-use Rattle.hk_model.proofs.FaultRanks.{later_line, later_begins, first_later, none_open, fault_bad}
 use Rattle.hk_model.proofs.FirstFaults.{first_of_statement}
 use Rattle.hk_model.proofs.OutsideLines.{silent_line, effect_after}
 use Rattle.hk_model.proofs.declared.Declared.read_outside.Goals as goal
@@ -14,12 +13,6 @@ use Rattle.hk_model.proofs.declared.Declared.read_outside.Goals.{In-Ok-Some}
 -- the shape is that of a statement which the line says
 shaped : (c : In-Ok-Some) → IsShapeOf (texts_of c.args.line.now c.args.tokens.now) c.in-Ok-Some.shape
 shaped c = rw c.in-Ok-Some.field-0-is at c.in-Ok-Some.ensures.shape
-
-pub returns-then-is_later-clause-err : goal.returns-then-is_later-clause-err
-returns-then-is_later-clause-err c =
-    let both = c.is_later.ensures.0 c.if-is_later.true in
-    let first = first_later (later_line c.requires.has both.0 c.requires.outside both.1) in
-    (fault_bad (none_open c.args.self.now c.requires.outside) first.fault, first)
 
 pub returns-in-Ok-Some-clause-ok : goal.returns-in-Ok-Some-clause-ok
 returns-in-Ok-Some-clause-ok c = on_ok_weaker c.declare.result
@@ -39,4 +32,3 @@ returns-in-Ok-None-clause-err c =
     silent_line c.args.self.now c.requires.has c.requires.some c.requires.outside (silent refl)
     (c.in_default.ensures.none refl)
     (c.after_text-2.ensures.none (sym c.is_some.ensures ∙ c.if-is_some.false))
-    (λ later. let begins = later_begins c.requires.has later in true≢false (sym (c.is_later.ensures.1 (begins.0, begins.2)) ∙ c.if-is_later.false))
