@@ -16,7 +16,7 @@ ghost use Rattle.hk_arena.specs.Supporting.{AreLiveThere};
 
 use crate::blanks::blank;
 use crate::entries::{read_entry, write_entry};
-use crate::from::{is_from, write_from};
+use crate::from::{is_from, read_from, write_from};
 use crate::ids::{EntryId, RowId};
 use crate::layout::Layout;
 use crate::opening::opened;
@@ -235,6 +235,15 @@ impl Diagram {
         ensures { IsTrue result ↔ Contains (row_in self.now.table row).from old }
     {
         is_from(&self.store, &self.layout, row, old)
+    }
+
+    /// The set of the rows of an older table that a row comes from, which are below 256.
+    #[tactic(auto, unfolding(crate::specs::Cells::rows_in_set))]
+    pub fn from_rows(&self, row: RowId) -> RowSet
+        requires { IsRow self.now.table row }
+        ensures { members_below result 256 ≡ (row_in self.now.table row).from }
+    {
+        read_from(&self.store, &self.layout, row)
     }
 
     /// Gives a row another down state. Where memory is refused the row is any that fits, and all others

@@ -31,7 +31,7 @@ fn row_set(rows: &[u16]) -> RowSet
 
 /// The set of the rows that a row of the table that cells hold comes from.
 #[inline]
-fn read_from(store: &Store, layout: &Layout, row: RowId) -> RowSet
+pub(crate) fn read_from(store: &Store, layout: &Layout, row: RowId) -> RowSet
     requires kept { IsKept layout.now store.now.content }
     requires row { IsRow (table_of layout.now store.now.content) row }
     ensures { rows_in_set result ≡ (row_in (table_of layout.now store.now.content) row).from }

@@ -3,6 +3,7 @@ pub mod Halves
 pub mod Items
 pub mod Keeps
 pub mod Members
+pub mod OpenBranches
 pub mod Opening
 pub mod Supporting
 pub mod Tables
