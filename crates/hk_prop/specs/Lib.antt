@@ -1,0 +1,12 @@
+pub mod Contents
+pub mod Faults
+pub mod Keeping
+pub mod OpenLevels
+pub mod Passes
+pub mod Settling
+pub mod Standing
+pub mod Supports
+pub mod Telling
+pub mod Told
+pub mod Works
+pub mod inside
