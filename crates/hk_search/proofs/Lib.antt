@@ -1,5 +1,15 @@
 pub mod AnswerLines
 pub mod Begun
+pub mod Children
+pub mod Cutting
+pub mod DueFronts
+pub mod Dues
+pub mod LastSolution
+pub mod NodeCounts
+pub mod OneTree
 pub mod Orders
+pub mod RealRules
+pub mod Replies
 pub mod Trying
+pub mod Uncut
 pub mod Walking

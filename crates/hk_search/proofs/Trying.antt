@@ -18,7 +18,7 @@ better_first a b None better no_better = absurd (no_better tt)
 better_first a b (Some best) better no_better = by_lt_z b best.cost (λ less. absurd (no_better less)) (λ more. omega (arith, ints))
 
 -- what costs less than something better is better
-better_less : (a b : ℤ) (best : Option Found) → a <ℤ b → IsBetter b best → IsBetter a best
+pub better_less : (a b : ℤ) (best : Option Found) → a <ℤ b → IsBetter b best → IsBetter a best
 better_less a b None less better = tt
 better_less a b (Some best) less better = omega (arith, ints)
 

@@ -1,4 +1,4 @@
-//! A solution that a search keeps.
+//! A solution that a search keeps, and what a search answers.
 
 use hk_base::List;
 
@@ -7,4 +7,13 @@ use hk_base::List;
 pub struct Found {
     pub cost: i64,
     pub values: List<u8>,
+}
+
+/// What a search over diagrams answers: the best solution that it found, how many nodes it entered,
+/// and whether it left no child open.
+#[derive(Debug, Drop)]
+pub struct Outcome {
+    pub best: Option<Found>,
+    pub nodes: u64,
+    pub complete: bool,
 }
